@@ -1,0 +1,5 @@
+pub mod LastColumn
+pub mod Lists
+pub mod Passes
+pub mod Rules
+pub mod Texts

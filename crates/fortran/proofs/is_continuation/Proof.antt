@@ -1,0 +1,45 @@
+-- `is_continuation` meets its contract: what its callees ensure stands in the definition, test by test.
+-- Assumes nothing.
+use borrow.Author.Needs.{needs}
+use Rattle.fortran.proofs.is_continuation.Statement.{statement}
+use Rattle.fortran.proofs.is_continuation.Tie as tie
+
+sub-first-columns : tie.Need-sub-first-columns
+sub-first-columns c = search needs
+
+first-columns-requires : tie.Need-first-columns-requires
+first-columns-requires c κs = search needs
+
+all-blank-requires : tie.Need-all-blank-requires
+all-blank-requires c κs = search needs
+
+column-requires : tie.Need-column-requires
+column-requires c κs = search needs
+
+continues-requires : tie.Need-continues-requires
+continues-requires c κs = search needs
+
+returns : tie.Need-returns
+returns c =
+    rw (
+      ← c .before .before .before .before .first-columns .ensures,
+      ← c .before .before .before .all-blank .ensures,
+      c .before .before .if1 .taken,
+      ← c .before .column .ensures,
+    )
+    (c .continues .ensures)
+
+returns-2 : tie.Need-returns-2
+returns-2 c = rw (← c .before .before .first-columns .ensures, ← c .before .all-blank .ensures, c .if1 .left)
+
+pub is-continuation-spec : {M : Type 1} → statement M
+is-continuation-spec =
+    tie.close
+    (tie.spec
+    sub-first-columns
+    first-columns-requires
+    all-blank-requires
+    column-requires
+    continues-requires
+    returns
+    returns-2)
