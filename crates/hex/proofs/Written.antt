@@ -99,3 +99,8 @@ line-put before at first second third fourth number out a b c d n room digits =
     put-after before at frame 10 (omega arith)
     in
     rw (digits, digits-of-frame first second third fourth number a b c d n) (rw long at put)
+
+pub length-of-line : (first second third fourth number : ℕ) → length (lineOf first second third fourth number) ≡ lineSize
+unfolding lineOf
+length-of-line first second third fourth number =
+    length-append (digitsOfFrame first second third fourth number) (10 ∷ []) ∙ omega (arith, length-of-frame first second third fourth number)

@@ -1,7 +1,7 @@
 -- Definition 1 of the paper 000, as document 01 puts it: the operations on a list of marks. Places count from 1.
 -- Each is total. What it gives outside document 01's ranges is of no account: the protocol refuses there.
 -- Assumes nothing.
-use mathlib.Core.Bool.{cond, _&&_}
+use mathlib.Core.Bool.{cond}
 use mathlib.Core.List.{List, [], _∷_, _++_}
 use Prim.Native.Nat.{ℕ, zero, suc, _+_, _-_}
 use lib.Dec.{eqb}
@@ -24,10 +24,11 @@ access xs i = getD xs (i - 1) 0
 unfoldable pub rank : ℕ → List ℕ → ℕ → ℕ
 rank c xs i = count c (take i xs)
 
--- select of c at j: the place of the j-th c
+-- select of c at j: the place of the j-th c, so it is 0 at j = 0. Every mark up to it is passed, and each c passed is one fewer to find
 unfoldable pub select : ℕ → List ℕ → ℕ → ℕ
 select c [] j = 0
-select c (x ∷ xs) j = cond (eqb x c && eqb j 1) 1 (suc (select c xs (j - isMark c x)))
+select c (x ∷ xs) zero = 0
+select c (x ∷ xs) (suc j) = suc (select c xs (suc j - isMark c x))
 
 -- insert of c at i: c stands between places i - 1 and i
 unfoldable pub insert : ℕ → ℕ → List ℕ → List ℕ

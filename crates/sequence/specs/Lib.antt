@@ -1,1 +1,2 @@
+pub mod Alphabet
 pub mod Definition1

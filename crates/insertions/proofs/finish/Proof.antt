@@ -1,0 +1,53 @@
+-- `insertions::finish` meets its contract: by whether a line without a line feed is left.
+-- Assumes nothing.
+use Rattle.insertions.proofs.Steps.{ends-whole, ends-open}
+use borrow.Author.Needs.{needs}
+use Rattle.insertions.proofs.finish.Statement.{statement}
+use Rattle.insertions.proofs.finish.Tie as tie
+use Rattle.insertions.proofs.finish.Reads as reads
+use Rattle.insertions.proofs.finish.Lts as lts
+use Rattle.fortran.proofs.first_columns.Reads as first-columns-reads
+use Rattle.insertions.proofs.put_frame.Reads as put-frame-reads
+use Rattle.lines.proofs.finish.Reads as finish-reads
+
+finish-requires : tie.Need-finish-requires
+finish-requires c κs = search needs
+
+same-length : tie.Need-same-length
+same-length c = search needs
+
+returns : tie.Need-returns
+returns c = search ends-whole
+
+first-columns-requires : tie.Need-first-columns-requires
+first-columns-requires c κs = search needs
+
+put-frame-requires : tie.Need-put-frame-requires
+put-frame-requires c κs = search needs
+
+same-length-2 : tie.Need-same-length-2
+same-length-2 c = search needs
+
+same-length-3 : tie.Need-same-length-3
+same-length-3 c = search needs
+
+returns-2 : tie.Need-returns-2
+returns-2 c =
+    let finished = c .before .before .before .before .before .before .before .before .before .before in
+    ends-open _ _ _ _ _ (finished .finish .result) (finished .finish .ensures) _ _
+    (c .before .before .before .before .before .before .if1 .left)
+    (c .before .before .before .before .first-columns .ensures)
+    (c .before .before .put-frame .ensures)
+
+pub finish-spec : {M : Type 1} → statement M
+finish-spec =
+    tie.close
+    (tie.spec
+    finish-requires
+    same-length
+    returns
+    first-columns-requires
+    put-frame-requires
+    same-length-2
+    same-length-3
+    returns-2)

@@ -1,0 +1,66 @@
+-- `insertions::take_line` meets its contract: by whether the bytes taken end a line.
+-- Assumes nothing.
+use Rattle.insertions.proofs.Steps.{line-taken, none-taken}
+use borrow.Author.Needs.{needs}
+use Rattle.insertions.proofs.take_line.Statement.{statement}
+use Rattle.insertions.proofs.take_line.Tie as tie
+use Rattle.insertions.proofs.take_line.Reads as reads
+use Rattle.insertions.proofs.take_line.Lts as lts
+use Rattle.fortran.proofs.first_columns.Reads as first-columns-reads
+use Rattle.insertions.proofs.one_more.Reads as one-more-reads
+use Rattle.insertions.proofs.put_frame.Reads as put-frame-reads
+use Rattle.lines.proofs.Gathered.start.Reads as start-reads
+use Rattle.lines.proofs.gather.Reads as gather-reads
+
+gather-requires : tie.Need-gather-requires
+gather-requires c κs = search needs
+
+first-columns-requires : tie.Need-first-columns-requires
+first-columns-requires c κs = search needs
+
+put-frame-requires : tie.Need-put-frame-requires
+put-frame-requires c κs = search needs
+
+start-requires : tie.Need-start-requires
+start-requires c κs = search needs
+
+one-more-requires : tie.Need-one-more-requires
+one-more-requires c κs = search needs
+
+same-length : tie.Need-same-length
+same-length c = search needs
+
+same-length-2 : tie.Need-same-length-2
+same-length-2 c = search needs
+
+returns : tie.Need-returns
+returns c =
+    let put = c .before .before .before .before in
+    let gathered = c .before .before .before .before .before .before .before .before .before .before .before .before in
+    line-taken _ _ _ _ _ _ _ (gathered .gather .result) (gathered .gather .ensures) _ _ _ _
+    (c .before .start .ensures)
+    (c .before .before .before .before .before .before .before .before .if1 .taken)
+    (c .before .before .before .before .before .before .first-columns .ensures)
+    (put .put-frame .ensures)
+    (c .one-more .ensures)
+
+same-length-3 : tie.Need-same-length-3
+same-length-3 c = search needs
+
+returns-2 : tie.Need-returns-2
+returns-2 c = search none-taken
+
+pub take-line-spec : {M : Type 1} → statement M
+take-line-spec =
+    tie.close
+    (tie.spec
+    gather-requires
+    first-columns-requires
+    put-frame-requires
+    start-requires
+    one-more-requires
+    same-length
+    same-length-2
+    returns
+    same-length-3
+    returns-2)

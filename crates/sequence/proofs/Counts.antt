@@ -1,0 +1,46 @@
+-- One mark compared with a symbol, and the count of a symbol.
+-- Assumes nothing.
+use mathlib.Core.Path.{_≡_, refl, ap}
+use mathlib.Core.Bool.{Bool, true, false, cond}
+use mathlib.Core.List.{List, [], _∷_}
+use mathlib.Core.Logic.{_⊎_, inl, inr}
+use Prim.Native.Nat.{ℕ, _≤_}
+use native.Mathlib.Nat.{add-zero}
+use native.Mathlib.Omega.{arith}
+use lib.Dec.{eqb}
+use lib.ListN.{length, take, length-take}
+use borrow.Author.Tests.{eq-eqb, ne-eqb, eqb-true, eqb-false}
+use Rattle.sequence.specs.Definition1.{isMark, count}
+
+pub isMark-same : (c x : ℕ) → x ≡ c → isMark c x ≡ 1
+isMark-same c x e = ap (λ (b : Bool). cond {A = ℕ} b 1 0) (eq-eqb x c e)
+
+pub isMark-other : (c x : ℕ) → (x ≡ c → ⊥) → isMark c x ≡ 0
+isMark-other c x d = ap (λ (b : Bool). cond {A = ℕ} b 1 0) (ne-eqb x c d)
+
+-- a mark is c, or it isn't
+pub isMark-cases : (c x : ℕ) → ((x ≡ c) × (isMark c x ≡ 1)) ⊎ ((x ≡ c → ⊥) × (isMark c x ≡ 0))
+isMark-cases c x = go (eqb x c) refl
+  where
+    go : (b : Bool) → eqb x c ≡ b → ((x ≡ c) × (isMark c x ≡ 1)) ⊎ ((x ≡ c → ⊥) × (isMark c x ≡ 0))
+    go true e = inl (eqb-true x c e, isMark-same c x (eqb-true x c e))
+    go false e = inr (eqb-false x c e, isMark-other c x (eqb-false x c e))
+
+pub isMark-le-one : (c x : ℕ) → isMark c x ≤ 1
+isMark-le-one c x = go (eqb x c)
+  where
+    go : (b : Bool) → cond {A = ℕ} b 1 0 ≤ 1
+    go true = omega arith
+    go false = omega arith
+
+pub count-one : (c x : ℕ) → count c (x ∷ []) ≡ isMark c x
+unfolding count
+count-one c x = add-zero (isMark c x)
+
+pub count-le-length : (c : ℕ) (xs : List ℕ) → count c xs ≤ length xs
+unfolding count
+count-le-length c [] = omega arith
+count-le-length c (x ∷ xs) = omega (arith, isMark-le-one c x, count-le-length c xs)
+
+pub count-take-le : (c n : ℕ) (xs : List ℕ) → count c (take n xs) ≤ n
+count-take-le c n xs = omega (arith, count-le-length c (take n xs), length-take n xs)

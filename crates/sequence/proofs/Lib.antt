@@ -1,0 +1,7 @@
+pub mod Alphabets
+pub mod Counts
+pub mod Edits
+pub mod Measures
+pub mod Ranks
+pub mod Seams
+pub mod Selects

@@ -1,0 +1,99 @@
+-- Measures of lists that add up over a seam: how many marks, how many c. What holds of both is stated once, over any such measure.
+-- Assumes nothing.
+use mathlib.Core.Path.{_≡_, sym, ap, _∙_}
+use mathlib.Core.List.{List, [], _∷_, _++_}
+use Prim.Native.Nat.{ℕ, suc, _+_, _-_, _≤_, _<_}
+use native.Mathlib.Nat.{zero-add, add-sub-of-le}
+use native.Mathlib.Omega.{arith}
+use lib.ListN.{length, getD, take, drop, length-append, length-take, take-append-drop}
+use lib.Seq.{take-suc, take-append-le, take-append-add, take-add, drop-drop, split-at}
+use Rattle.sequence.specs.Definition1.{count, access, insert}
+
+abbrev pub Additive : (List ℕ → ℕ) → Type 0
+Additive μ = (xs ys : List ℕ) → μ (xs ++ ys) ≡ μ xs + μ ys
+
+pub length-additive : Additive length
+length-additive xs ys = length-append xs ys
+
+pub count-additive : (c : ℕ) → Additive (count c)
+unfolding count
+count-additive c [] ys = sym (zero-add (count c ys))
+count-additive c (x ∷ xs) ys = omega (arith, count-additive c xs ys)
+
+-- a list, cut around its place i
+pub split-place : (xs : List ℕ) (i : ℕ) → 1 ≤ i → i ≤ length xs → take (i - 1) xs ++ access xs i ∷ drop i xs ≡ xs
+unfolding access
+split-place xs i p h =
+    let e : suc (i - 1) ≡ i = omega arith in
+    let l : i - 1 < length xs = omega arith in
+    rw e at (sym (split-at xs (i - 1) 0 l))
+
+module _ (μ : List ℕ → ℕ) (additive : Additive μ) where
+  pub measure-nil : μ [] ≡ 0
+  measure-nil = omega (arith, additive [] [])
+
+  pub measure-parts : (i : ℕ) (xs : List ℕ) → μ (take i xs) + μ (drop i xs) ≡ μ xs
+  measure-parts i xs = sym (additive (take i xs) (drop i xs)) ∙ ap μ (take-append-drop i xs)
+
+  pub measure-take-le : (i : ℕ) (xs : List ℕ) → μ (take i xs) ≤ μ xs
+  measure-take-le i xs = omega (arith, measure-parts i xs)
+
+  -- the first b marks are the first a and the stretch from there to b
+  pub measure-stretch : (xs : List ℕ) (a b : ℕ) → a ≤ b → μ (take b xs) ≡ μ (take a xs) + μ (take (b - a) (drop a xs))
+  measure-stretch xs a b h =
+      ap (λ (k : ℕ). μ (take k xs)) (sym (add-sub-of-le h)) ∙ ap μ (take-add a (b - a) xs)
+      ∙ additive (take a xs) (take (b - a) (drop a xs))
+
+  -- a stretch from a to e, cut at b
+  pub measure-stretches : (xs : List ℕ) (a b e : ℕ) → a ≤ b → b ≤ e
+      → μ (take (e - a) (drop a xs)) ≡ μ (take (b - a) (drop a xs)) + μ (take (e - b) (drop b xs))
+  measure-stretches xs a b e h k =
+      let to-b : a + (b - a) ≡ b = omega arith in
+      let rest : e - a - (b - a) ≡ e - b = omega arith in
+      rw (rest, drop-drop, to-b) at (measure-stretch (drop a xs) (b - a) (e - a) (omega arith))
+
+  pub measure-monotone : (xs : List ℕ) (a b : ℕ) → a ≤ b → μ (take a xs) ≤ μ (take b xs)
+  measure-monotone xs a b h = omega (arith, measure-stretch xs a b h)
+
+  -- one place more
+  pub measure-step : (xs : List ℕ) (i : ℕ) → i < length xs → μ (take (suc i) xs) ≡ μ (take i xs) + μ (getD xs i 0 ∷ [])
+  measure-step xs i h = ap μ (take-suc xs i 0 h) ∙ additive (take i xs) (getD xs i 0 ∷ [])
+
+  -- the first i marks across a seam
+  pub measure-left : (xs ys : List ℕ) (i : ℕ) → i ≤ length xs → μ (take i (xs ++ ys)) ≡ μ (take i xs)
+  measure-left xs ys i h = ap μ (take-append-le i xs ys h)
+
+  pub measure-right : (xs ys : List ℕ) (i : ℕ) → length xs ≤ i → μ (take i (xs ++ ys)) ≡ μ xs + μ (take (i - length xs) ys)
+  measure-right xs ys i h =
+      ap (λ (k : ℕ). μ (take k (xs ++ ys))) (sym (add-sub-of-le h)) ∙ ap μ (take-append-add xs ys (i - length xs))
+      ∙ additive xs (take (i - length xs) ys)
+
+  -- the first k marks after x was put in at the place i: with x, or without
+  pub measure-insert-after : (x i k : ℕ) (xs : List ℕ) → 1 ≤ i → i ≤ k → μ (take k (insert x i xs)) ≡ μ (x ∷ []) + μ (take (k - 1) xs)
+  unfolding insert
+  measure-insert-after x i k xs p h =
+      let l = take (i - 1) xs in
+      let r = drop (i - 1) xs in
+      let n = k - 1 - length l in
+      let long : length l ≤ k - 1 = simp length-take (omega arith) in
+      let past : k - length l ≡ suc n = omega arith in
+      let whole : μ (take k (l ++ x ∷ r)) ≡ μ l + μ (take (suc n) (x ∷ r)) = rw past at (measure-right l (x ∷ r) k (omega arith)) in
+      let rest : μ (take (k - 1) xs) ≡ μ l + μ (take n r) = rw (take-append-drop (i - 1) xs) at (measure-right l r (k - 1) long) in
+      omega (arith, whole, rest, additive (x ∷ []) (take n r))
+
+  pub measure-insert-before : (x i k : ℕ) (xs : List ℕ) → k < i → i ≤ length xs + 1 → μ (take k (insert x i xs)) ≡ μ (take k xs)
+  unfolding insert
+  measure-insert-before x i k xs h e =
+      let l = take (i - 1) xs in
+      let within : k ≤ length l = simp length-take (omega arith) in
+      measure-left l (x ∷ drop (i - 1) xs) k within
+      ∙ sym (measure-left l (drop (i - 1) xs) k within)
+      ∙ ap (λ (ys : List ℕ). μ (take k ys)) (take-append-drop (i - 1) xs)
+
+  -- put in anywhere at all, x adds its own measure
+  pub measure-insert : (x i : ℕ) (xs : List ℕ) → μ (insert x i xs) ≡ μ (x ∷ []) + μ xs
+  unfolding insert
+  measure-insert x i xs =
+      let l = take (i - 1) xs in
+      let r = drop (i - 1) xs in
+      omega (arith, additive l (x ∷ r), additive (x ∷ []) r, measure-parts (i - 1) xs)
