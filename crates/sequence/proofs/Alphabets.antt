@@ -1,16 +1,17 @@
 -- Marks below σ, and sums over the σ symbols: the counts of all symbols add up to the length, and their ranks to the place.
 -- Assumes nothing.
 use mathlib.Core.Path.{_≡_, refl, _∙_}
-use mathlib.Core.List.{List, [], _∷_, _++_}
+use mathlib.Core.List.{List, [], _∷_}
 use mathlib.Core.Logic.{_⊎_, inl, inr, ⊎-elim}
 use Prim.Native.Nat.{ℕ, zero, suc, _+_, _-_, _≤_, _<_}
 use native.Mathlib.Nat.{eq-zero-or-pos}
 use native.Mathlib.Omega.{arith}
-use lib.ListN.{length, getD, take, drop}
+use lib.ListN.{length, getD, take}
 use lib.Seq.{length-take-le}
 use Rattle.sequence.specs.Definition1.{isMark, count, access, rank}
 use Rattle.sequence.specs.Alphabet.{AllBelow, sumBelow}
 use Rattle.sequence.proofs.Counts.{isMark-cases, isMark-other}
+use Rattle.sequence.proofs.Items.{all-take}
 
 below-or-not : (x σ : ℕ) → (x < σ) ⊎ (σ ≤ x)
 below-or-not x σ = ⊎-elim (λ e. inr (omega arith)) (λ h. inl (omega arith)) (eq-zero-or-pos (σ - x))
@@ -44,47 +45,18 @@ sumBelow-isMark-le-one σ x =
     ⊎-elim (λ h. omega (arith, sumBelow-isMark-one σ x h)) (λ h. omega (arith, sumBelow-isMark-none σ x h)) (below-or-not x σ)
 
 pub counts-add-up : (σ : ℕ) (xs : List ℕ) → AllBelow σ xs → sumBelow σ (λ c. count c xs) ≡ length xs
-unfolding count AllBelow
+unfolding count
 counts-add-up σ [] b = sumBelow-zero σ
 counts-add-up σ (x ∷ xs) b =
     omega (arith, sumBelow-add σ (λ c. isMark c x) (λ c. count c xs), sumBelow-isMark-one σ x (b .0), counts-add-up σ xs (b .1))
 
-pub allBelow-append : (σ : ℕ) (xs ys : List ℕ) → AllBelow σ xs → AllBelow σ ys → AllBelow σ (xs ++ ys)
-unfolding AllBelow
-allBelow-append σ [] ys b e = e
-allBelow-append σ (x ∷ xs) ys b e = (b .0, allBelow-append σ xs ys (b .1) e)
-
-pub allBelow-take : (σ i : ℕ) (xs : List ℕ) → AllBelow σ xs → AllBelow σ (take i xs)
-unfolding AllBelow
-allBelow-take σ zero xs b = tt
-allBelow-take σ (suc i) [] b = tt
-allBelow-take σ (suc i) (x ∷ xs) b = (b .0, allBelow-take σ i xs (b .1))
-
-pub allBelow-drop : (σ i : ℕ) (xs : List ℕ) → AllBelow σ xs → AllBelow σ (drop i xs)
-unfolding AllBelow
-allBelow-drop σ zero xs b = b
-allBelow-drop σ (suc i) [] b = tt
-allBelow-drop σ (suc i) (x ∷ xs) b = allBelow-drop σ i xs (b .1)
-
-pub allBelow-left : (σ : ℕ) (xs ys : List ℕ) → AllBelow σ (xs ++ ys) → AllBelow σ xs
-unfolding AllBelow
-allBelow-left σ [] ys b = tt
-allBelow-left σ (x ∷ xs) ys b = (b .0, allBelow-left σ xs ys (b .1))
-
-pub allBelow-right : (σ : ℕ) (xs ys : List ℕ) → AllBelow σ (xs ++ ys) → AllBelow σ ys
-unfolding AllBelow
-allBelow-right σ [] ys b = b
-allBelow-right σ (x ∷ xs) ys b = allBelow-right σ xs ys (b .1)
-
 -- mark by mark, at indices from 0
 pub allBelow-getD : (σ : ℕ) (xs : List ℕ) → AllBelow σ xs → (k : ℕ) → k < length xs → getD xs k 0 < σ
-unfolding AllBelow
 allBelow-getD σ [] b k h = absurd (omega arith)
 allBelow-getD σ (x ∷ xs) b zero h = b .0
 allBelow-getD σ (x ∷ xs) b (suc k) h = allBelow-getD σ xs (b .1) k (omega arith)
 
 pub allBelow-from-getD : (σ : ℕ) (xs : List ℕ) → ((k : ℕ) → k < length xs → getD xs k 0 < σ) → AllBelow σ xs
-unfolding AllBelow
 allBelow-from-getD σ [] b = tt
 allBelow-from-getD σ (x ∷ xs) b = (b 0 (omega arith), allBelow-from-getD σ xs (λ k h. b (suc k) (omega arith)))
 
@@ -94,7 +66,7 @@ allBelow-access σ xs i b p h = allBelow-getD σ xs b (i - 1) (omega arith)
 
 pub ranks-add-up : (σ : ℕ) (xs : List ℕ) (i : ℕ) → AllBelow σ xs → i ≤ length xs → sumBelow σ (λ c. rank c xs i) ≡ i
 unfolding rank
-ranks-add-up σ xs i b h = counts-add-up σ (take i xs) (allBelow-take σ i xs b) ∙ length-take-le i xs h
+ranks-add-up σ xs i b h = counts-add-up σ (take i xs) (all-take (λ x. x < σ) i xs b) ∙ length-take-le i xs h
 
 pub counts-at-most : (σ : ℕ) (xs : List ℕ) → sumBelow σ (λ c. count c xs) ≤ length xs
 unfolding count
@@ -104,7 +76,7 @@ counts-at-most σ (x ∷ xs) =
 
 -- where the counts add up to the length, every mark is below σ
 pub allBelow-of-counts : (σ : ℕ) (xs : List ℕ) → sumBelow σ (λ c. count c xs) ≡ length xs → AllBelow σ xs
-unfolding count AllBelow
+unfolding count
 allBelow-of-counts σ [] e = tt
 allBelow-of-counts σ (x ∷ xs) e =
     let sum = sumBelow-add σ (λ c. isMark c x) (λ c. count c xs) in

@@ -26,12 +26,12 @@ isMark-cases c x = go (eqb x c) refl
     go true e = inl (eqb-true x c e, isMark-same c x (eqb-true x c e))
     go false e = inr (eqb-false x c e, isMark-other c x (eqb-false x c e))
 
+pub cond-le-one : (b : Bool) → cond {A = ℕ} b 1 0 ≤ 1
+cond-le-one true = omega arith
+cond-le-one false = omega arith
+
 pub isMark-le-one : (c x : ℕ) → isMark c x ≤ 1
-isMark-le-one c x = go (eqb x c)
-  where
-    go : (b : Bool) → cond {A = ℕ} b 1 0 ≤ 1
-    go true = omega arith
-    go false = omega arith
+isMark-le-one c x = cond-le-one (eqb x c)
 
 pub count-one : (c x : ℕ) → count c (x ∷ []) ≡ isMark c x
 unfolding count

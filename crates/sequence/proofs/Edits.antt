@@ -4,21 +4,46 @@ use mathlib.Core.Path.{_≡_, refl, sym, ap, _∙_}
 use mathlib.Core.List.{List, _∷_, _++_}
 use Prim.Native.Nat.{ℕ, suc, _+_, _-_, _≤_, _<_}
 use native.Mathlib.Omega.{arith}
-use lib.ListN.{length, take, drop, length-take, take-append-drop}
-use lib.Seq.{take-at, drop-at, getD-at}
+use lib.ListN.{length, take, drop, length-append, length-take, length-drop, take-append-drop}
+use lib.Seq.{length-take-le, take-add, take-at, take-append-add, drop-at, drop-append-add, drop-drop, getD-at}
 use Rattle.sequence.specs.Definition1.{isMark, count, access, rank, select, insert, delete}
 use Rattle.sequence.specs.Alphabet.{AllBelow}
-use Rattle.sequence.proofs.Alphabets.{allBelow-append, allBelow-take, allBelow-drop}
 use Rattle.sequence.proofs.Counts.{count-one, isMark-same}
-use Rattle.sequence.proofs.Measures.{length-additive, count-additive, split-place, measure-insert, measure-insert-before, measure-insert-after}
-use Rattle.sequence.proofs.Seams.{access-left, access-right, select-left, select-right, delete-right}
+use Rattle.sequence.proofs.Items.{all-append, all-take, all-drop}
+use Rattle.sequence.proofs.Measures.{count-additive, split-place, measure-insert}
+use Rattle.sequence.proofs.Seams.{access-left, access-right, select-left, select-right, insert-right, delete-right}
 use Rattle.sequence.proofs.Selects.{access-cons, select-zero, select-cons}
 
 pub length-insert : (x i : ℕ) (xs : List ℕ) → length (insert x i xs) ≡ length xs + 1
-length-insert x i xs = omega (arith, measure-insert length length-additive x i xs)
+length-insert x i xs = omega (arith, measure-insert length length-append x i xs)
 
 pub count-insert : (c x i : ℕ) (xs : List ℕ) → count c (insert x i xs) ≡ isMark c x + count c xs
 count-insert c x i xs = rw count-one at (measure-insert (count c) (count-additive c) x i xs)
+
+-- at whatever place, a delete takes one mark out or none
+pub length-delete-le : (i : ℕ) (xs : List ℕ) → length (delete i xs) ≤ length xs
+unfolding delete
+length-delete-le i xs = simp (length-append, length-take, length-drop) (omega arith)
+
+pub length-le-delete : (i : ℕ) (xs : List ℕ) → length xs ≤ length (delete i xs) + 1
+unfolding delete
+length-le-delete i xs = simp (length-append, length-take, length-drop) (omega arith)
+
+-- x is put in behind the first k marks
+module _ (x i k : ℕ) (xs : List ℕ) (b : k < i) (within : k ≤ length xs) where
+  long : length (take k xs) ≡ k
+  long = length-take-le k xs within
+
+  cut-before : insert x i xs ≡ take k xs ++ insert x (i - k) (drop k xs)
+  cut-before =
+      ap (insert x i) (sym (take-append-drop k xs)) ∙ insert-right (take k xs) (drop k xs) i x (omega (arith, long))
+      ∙ ap (λ (n : ℕ). take k xs ++ insert x (i - n) (drop k xs)) long
+
+  pub take-insert-before : take k (insert x i xs) ≡ take k xs
+  take-insert-before = ap (take k) cut-before ∙ take-at (take k xs) (insert x (i - k) (drop k xs)) k long
+
+  pub drop-insert-before : drop k (insert x i xs) ≡ insert x (i - k) (drop k xs)
+  drop-insert-before = ap (drop k) cut-before ∙ drop-at (take k xs) (insert x (i - k) (drop k xs)) k long
 
 -- x is put in at a place from 1 to n + 1
 module _ (x i : ℕ) (xs : List ℕ) (p : 1 ≤ i) (h : i ≤ length xs + 1) where
@@ -33,6 +58,28 @@ module _ (x i : ℕ) (xs : List ℕ) (p : 1 ≤ i) (h : i ≤ length xs + 1) whe
       let r = drop (i - 1) xs in
       let one : i - length l ≡ 1 = omega (arith, front) in
       delete-right l (x ∷ r) i (omega (arith, front)) ∙ ap (λ (k : ℕ). l ++ delete k (x ∷ r)) one ∙ take-append-drop (i - 1) xs
+
+  -- the first k marks, and those behind them, where x is one of the first
+  pub take-insert-after : (k : ℕ) → i ≤ k → take k (insert x i xs) ≡ insert x i (take (k - 1) xs)
+  unfolding insert
+  take-insert-after k a =
+      let l = take (i - 1) xs in
+      let r = drop (i - 1) xs in
+      let upto : k ≡ length l + suc (k - i) = omega (arith, front) in
+      let less : k - 1 ≡ i - 1 + (k - i) = omega arith in
+      let cut : take (k - 1) xs ≡ l ++ take (k - i) r = ap (λ (n : ℕ). take n xs) less ∙ take-add (i - 1) (k - i) xs in
+      ap (λ (n : ℕ). take n (l ++ x ∷ r)) upto ∙ take-append-add l (x ∷ r) (suc (k - i))
+      ∙ rw (cut, take-at l (take (k - i) r) (i - 1) front, drop-at l (take (k - i) r) (i - 1) front)
+
+  pub drop-insert-after : (k : ℕ) → i ≤ k → drop k (insert x i xs) ≡ drop (k - 1) xs
+  unfolding insert
+  drop-insert-after k a =
+      let l = take (i - 1) xs in
+      let r = drop (i - 1) xs in
+      let upto : k ≡ length l + suc (k - i) = omega (arith, front) in
+      let less : i - 1 + (k - i) ≡ k - 1 = omega arith in
+      ap (λ (n : ℕ). drop n (l ++ x ∷ r)) upto ∙ drop-append-add l (x ∷ r) (suc (k - i))
+      ∙ drop-drop (k - i) (i - 1) xs ∙ ap (λ (n : ℕ). drop n xs) less
 
   pub access-insert-here : access (insert x i xs) i ≡ x
   unfolding insert access
@@ -58,11 +105,11 @@ module _ (x i : ℕ) (xs : List ℕ) (p : 1 ≤ i) (h : i ≤ length xs + 1) whe
 
   pub rank-insert-before : (c k : ℕ) → k < i → rank c (insert x i xs) k ≡ rank c xs k
   unfolding rank
-  rank-insert-before c k b = measure-insert-before (count c) (count-additive c) x i k xs b h
+  rank-insert-before c k b = ap (count c) (take-insert-before x i k xs b (omega arith))
 
   pub rank-insert-after : (c k : ℕ) → i ≤ k → rank c (insert x i xs) k ≡ isMark c x + rank c xs (k - 1)
   unfolding rank
-  rank-insert-after c k a = rw count-one at (measure-insert-after (count c) (count-additive c) x i k xs p a)
+  rank-insert-after c k a = ap (count c) (take-insert-after k a) ∙ count-insert c x i (take (k - 1) xs)
 
   -- the c that stand before the place keep their places
   pub select-insert-before : (c j : ℕ) → j ≤ rank c xs (i - 1) → select c (insert x i xs) j ≡ select c xs j
@@ -152,10 +199,10 @@ module _ (i : ℕ) (xs : List ℕ) (p : 1 ≤ i) (h : i ≤ length xs) where
 
 -- and marks below σ stay below it
 pub allBelow-insert : (σ x i : ℕ) (xs : List ℕ) → x < σ → AllBelow σ xs → AllBelow σ (insert x i xs)
-unfolding AllBelow insert
+unfolding insert
 allBelow-insert σ x i xs h b =
-    allBelow-append σ (take (i - 1) xs) (x ∷ drop (i - 1) xs) (allBelow-take σ (i - 1) xs b) (h, allBelow-drop σ (i - 1) xs b)
+    all-append (λ y. y < σ) (take (i - 1) xs) (x ∷ drop (i - 1) xs) (all-take (λ y. y < σ) (i - 1) xs b) (h, all-drop (λ y. y < σ) (i - 1) xs b)
 
 pub allBelow-delete : (σ i : ℕ) (xs : List ℕ) → AllBelow σ xs → AllBelow σ (delete i xs)
 unfolding delete
-allBelow-delete σ i xs b = allBelow-append σ (take (i - 1) xs) (drop i xs) (allBelow-take σ (i - 1) xs b) (allBelow-drop σ i xs b)
+allBelow-delete σ i xs b = all-append (λ y. y < σ) (take (i - 1) xs) (drop i xs) (all-take (λ y. y < σ) (i - 1) xs b) (all-drop (λ y. y < σ) i xs b)

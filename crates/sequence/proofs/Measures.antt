@@ -5,15 +5,13 @@ use mathlib.Core.List.{List, [], _∷_, _++_}
 use Prim.Native.Nat.{ℕ, suc, _+_, _-_, _≤_, _<_}
 use native.Mathlib.Nat.{zero-add, add-sub-of-le}
 use native.Mathlib.Omega.{arith}
-use lib.ListN.{length, getD, take, drop, length-append, length-take, take-append-drop}
+use lib.ListN.{length, getD, take, drop, take-append-drop}
 use lib.Seq.{take-suc, take-append-le, take-append-add, take-add, drop-drop, split-at}
 use Rattle.sequence.specs.Definition1.{count, access, insert}
 
-abbrev pub Additive : (List ℕ → ℕ) → Type 0
-Additive μ = (xs ys : List ℕ) → μ (xs ++ ys) ≡ μ xs + μ ys
-
-pub length-additive : Additive length
-length-additive xs ys = length-append xs ys
+-- μ of two lists joined is the sum of both; so is length, by length-append
+abbrev pub Additive : {A : Type 0} → (List A → ℕ) → Type 0
+Additive {A} μ = (xs ys : List A) → μ (xs ++ ys) ≡ μ xs + μ ys
 
 pub count-additive : (c : ℕ) → Additive (count c)
 unfolding count
@@ -68,27 +66,11 @@ module _ (μ : List ℕ → ℕ) (additive : Additive μ) where
       ap (λ (k : ℕ). μ (take k (xs ++ ys))) (sym (add-sub-of-le h)) ∙ ap μ (take-append-add xs ys (i - length xs))
       ∙ additive xs (take (i - length xs) ys)
 
-  -- the first k marks after x was put in at the place i: with x, or without
-  pub measure-insert-after : (x i k : ℕ) (xs : List ℕ) → 1 ≤ i → i ≤ k → μ (take k (insert x i xs)) ≡ μ (x ∷ []) + μ (take (k - 1) xs)
-  unfolding insert
-  measure-insert-after x i k xs p h =
-      let l = take (i - 1) xs in
-      let r = drop (i - 1) xs in
-      let n = k - 1 - length l in
-      let long : length l ≤ k - 1 = simp length-take (omega arith) in
-      let past : k - length l ≡ suc n = omega arith in
-      let whole : μ (take k (l ++ x ∷ r)) ≡ μ l + μ (take (suc n) (x ∷ r)) = rw past at (measure-right l (x ∷ r) k (omega arith)) in
-      let rest : μ (take (k - 1) xs) ≡ μ l + μ (take n r) = rw (take-append-drop (i - 1) xs) at (measure-right l r (k - 1) long) in
-      omega (arith, whole, rest, additive (x ∷ []) (take n r))
-
-  pub measure-insert-before : (x i k : ℕ) (xs : List ℕ) → k < i → i ≤ length xs + 1 → μ (take k (insert x i xs)) ≡ μ (take k xs)
-  unfolding insert
-  measure-insert-before x i k xs h e =
-      let l = take (i - 1) xs in
-      let within : k ≤ length l = simp length-take (omega arith) in
-      measure-left l (x ∷ drop (i - 1) xs) k within
-      ∙ sym (measure-left l (drop (i - 1) xs) k within)
-      ∙ ap (λ (ys : List ℕ). μ (take k ys)) (take-append-drop (i - 1) xs)
+  -- and in the middle list of three
+  pub measure-middle : (xs ys zs : List ℕ) (i : ℕ) → length xs ≤ i → i ≤ length xs + length ys
+      → μ (take i (xs ++ (ys ++ zs))) ≡ μ xs + μ (take (i - length xs) ys)
+  measure-middle xs ys zs i past reach =
+      omega (arith, measure-right xs (ys ++ zs) i past, measure-left ys zs (i - length xs) (omega arith))
 
   -- put in anywhere at all, x adds its own measure
   pub measure-insert : (x i : ℕ) (xs : List ℕ) → μ (insert x i xs) ≡ μ (x ∷ []) + μ xs

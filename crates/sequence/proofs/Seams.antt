@@ -1,5 +1,4 @@
--- The operations across a seam `xs ++ ys`: on the left they are those of xs, on the right those of ys at a place less the marks of xs,
--- or an ordinal less the c of xs. Trees go down by these.
+-- The operations across a seam `xs ++ ys`: those of xs on the left; on the right those of ys, less the marks of xs, or less its c.
 -- Assumes nothing.
 use mathlib.Core.Path.{_≡_, refl, ap, _∙_}
 use mathlib.Core.List.{List, [], _∷_, _++_, append-assoc}
@@ -72,3 +71,12 @@ select-right c (x ∷ xs) ys zero h = absurd (omega arith)
 select-right c (x ∷ xs) ys (suc j) h =
     let e : suc j - isMark c x - count c xs ≡ suc j - (isMark c x + count c xs) = omega arith in
     omega (arith, select-right c xs ys (suc j - isMark c x) (omega arith), ap (select c ys) e)
+
+-- in the middle list of three
+module _ (xs ys zs : List ℕ) where
+  pub access-middle : (i : ℕ) → length xs < i → i ≤ length xs + length ys → access (xs ++ (ys ++ zs)) i ≡ access ys (i - length xs)
+  access-middle i past reach = access-right xs (ys ++ zs) i past ∙ access-left ys zs (i - length xs) (omega arith) (omega arith)
+
+  pub select-middle : (c j : ℕ) → count c xs < j → j ≤ count c xs + count c ys
+      → select c (xs ++ (ys ++ zs)) j ≡ length xs + select c ys (j - count c xs)
+  select-middle c j past reach = omega (arith, select-right c xs (ys ++ zs) j past, select-left c ys zs (j - count c xs) (omega arith))

@@ -1,2 +1,3 @@
 pub mod Alphabet
 pub mod Definition1
+pub mod Items

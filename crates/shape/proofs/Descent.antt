@@ -1,0 +1,101 @@
+-- Going down by any additive measure comes to the leaf that takes the place; the queries of Definition 1 are then those of the leaf.
+-- Assumes nothing.
+use mathlib.Core.Path.{_≡_, sym, ap, subst, _∙_}
+use mathlib.Core.List.{List, [], _∷_, _++_, append-assoc, append-nil}
+use Prim.Native.Nat.{ℕ, zero, suc, _+_, _-_, _≤_}
+use native.Mathlib.Omega.{arith}
+use lib.ListN.{length, take, length-append}
+use lib.Seq.{take-append-seam, getD-append-seam}
+use Rattle.sequence.specs.Definition1.{count, access, rank, select}
+use Rattle.sequence.proofs.Measures.{Additive, count-additive, measure-nil, measure-middle}
+use Rattle.sequence.proofs.Seams.{access-middle, select-middle}
+use Rattle.shape.specs.Nested.{Node, joined, total, flat}
+use Rattle.shape.specs.Level.{Takes, seat, rest, chosen}
+use Rattle.shape.specs.Paths.{Leads, path, leafAt, leftOf, rightOf}
+use Rattle.shape.proofs.Folds.{joined-append, total-joined, flat-nil}
+use Rattle.shape.proofs.Seat.{drop-suc-seam, by-taker, seat-takes, rest-takes, chosen-takes, takes-past, takes-within}
+
+-- One level, at the children before, the child and the children after.
+module _ (h : ℕ) (before : List (Node h)) (x : Node h) (after : List (Node h)) (p : List ℕ) where
+  leftOf-level : leftOf (suc h) (length before ∷ p) (before ++ x ∷ after) ≡ joined (flat h) before ++ leftOf h p x
+  unfolding leftOf
+  leftOf-level = rw (take-append-seam, getD-append-seam)
+
+  leafAt-level : leafAt (suc h) (length before ∷ p) (before ++ x ∷ after) ≡ leafAt h p x
+  unfolding leafAt
+  leafAt-level = rw getD-append-seam
+
+  rightOf-level : rightOf (suc h) (length before ∷ p) (before ++ x ∷ after) ≡ rightOf h p x ++ joined (flat h) after
+  unfolding rightOf
+  rightOf-level = rw (getD-append-seam, drop-suc-seam)
+
+pub path-takes : (g : List ℕ → ℕ) (h j : ℕ) (before : List (Node h)) (x : Node h) (after : List (Node h)) → Takes (λ y. g (flat h y)) j before x after
+    → path g (suc h) j (before ++ x ∷ after) ≡ length before ∷ path g h (j - total (λ y. g (flat h y)) before) x
+unfolding path
+path-takes g h j before x after t =
+    rw (seat-takes (λ y. g (flat h y)) j before x after t, rest-takes (λ y. g (flat h y)) j before x after t, chosen-takes (λ y. g (flat h y)) j before x after t)
+
+module _ (g : List ℕ → ℕ) (additive : Additive g) where
+  leads-level : (h j : ℕ) (before : List (Node h)) (x : Node h) (after : List (Node h)) (p : List ℕ) → Takes (λ y. g (flat h y)) j before x after
+      → Leads g h (j - total (λ y. g (flat h y)) before) p x → Leads g (suc h) j (length before ∷ p) (before ++ x ∷ after)
+  leads-level h j before x after p t l =
+      let sum : total (λ y. g (flat h y)) before ≡ g (joined (flat h) before) = total-joined g additive (flat h) before in
+      let all : g (joined (flat h) before ++ leftOf h p x) ≡ g (joined (flat h) before) + g (leftOf h p x) = additive (joined (flat h) before) (leftOf h p x) in
+      let past : g (leftOf h p x) ≤ j - total (λ y. g (flat h y)) before - 1 = l .past in
+      record {
+        marks = rw (leftOf-level h before x after p, leafAt-level h before x after p, rightOf-level h before x after p, joined-append (flat h) before (x ∷ after), l .marks) (simp append-assoc);
+        past = rw (leftOf-level h before x after p) (omega (arith, takes-past (flat h) g additive j before x after t));
+        within = λ (m : j ≤ g (joined (flat h) (before ++ x ∷ after))).
+            rw (leftOf-level h before x after p, leafAt-level h before x after p)
+            (omega (
+              arith,
+              takes-past (flat h) g additive j before x after t,
+              l .within (omega (arith, takes-within (flat h) g additive j before x after t m)),
+            ));
+      }
+
+  leads-empty : (h j : ℕ) (p : List ℕ) → Leads g h (j - 0) p [] → Leads g (suc h) j (0 ∷ p) []
+  unfolding leftOf leafAt rightOf
+  leads-empty h j p l = record {
+    marks = rw append-nil (sym (flat-nil h) ∙ l .marks);
+    past = omega (arith, l .past);
+    within = λ (m : j ≤ g []). omega (arith, measure-nil g additive, l .past);
+  }
+
+  pub path-leads : (h j : ℕ) (x : Node h) → Leads g h j (path g h j x) x
+  unfolding path leftOf leafAt rightOf seat rest chosen
+  path-leads zero j x = record { marks = sym (append-nil x); past = omega (arith, measure-nil g additive); within = λ (m : j ≤ g x). omega arith }
+  path-leads (suc h) j [] = leads-empty h j (path g h (j - 0) []) (path-leads h (j - 0) [])
+  path-leads (suc h) j (y ∷ ys) =
+      by-taker (λ z. g (flat h z)) j (y ∷ ys) (λ xs. Leads g (suc h) j (path g (suc h) j xs) xs)
+      (λ before x after t. subst (λ p. Leads g (suc h) j p (before ++ x ∷ after)) (sym (path-takes g h j before x after t))
+      (leads-level h j before x after (path g h (j - total (λ z. g (flat h z)) before) x) t (path-leads h (j - total (λ z. g (flat h z)) before) x)))
+      (omega arith)
+
+-- The queries, at the leaf that the path to a place leads to.
+module _ (h i : ℕ) (x : Node h) (place : i ≤ length (flat h x)) where
+  pub access-leaf : 1 ≤ i → access (flat h x) i ≡ access (leafAt h (path length h i x) x) (i - length (leftOf h (path length h i x) x))
+  access-leaf one =
+      let l : Leads length h i (path length h i x) x = path-leads length length-append h i x in
+      ap (λ xs. access xs i) (l .marks)
+      ∙ access-middle (leftOf h (path length h i x) x) (leafAt h (path length h i x) x) (rightOf h (path length h i x) x) i (omega (arith, l .past)) (l .within place)
+
+  -- any additive measure up to a place: rank, length
+  pub measure-leaf : (g : List ℕ → ℕ) → Additive g
+      → g (take i (flat h x)) ≡ g (leftOf h (path length h i x) x) + g (take (i - length (leftOf h (path length h i x) x)) (leafAt h (path length h i x) x))
+  measure-leaf g additive =
+      let l : Leads length h i (path length h i x) x = path-leads length length-append h i x in
+      ap (λ xs. g (take i xs)) (l .marks)
+      ∙ measure-middle g additive (leftOf h (path length h i x) x) (leafAt h (path length h i x) x) (rightOf h (path length h i x) x) i (omega (arith, l .past)) (l .within place)
+
+pub rank-leaf : (c h i : ℕ) (x : Node h) → i ≤ length (flat h x)
+    → rank c (flat h x) i ≡ count c (leftOf h (path length h i x) x) + rank c (leafAt h (path length h i x) x) (i - length (leftOf h (path length h i x) x))
+unfolding rank
+rank-leaf c h i x place = measure-leaf h i x place (count c) (count-additive c)
+
+pub select-leaf : (c h j : ℕ) (x : Node h) → 1 ≤ j → j ≤ count c (flat h x)
+    → select c (flat h x) j ≡ length (leftOf h (path (count c) h j x) x) + select c (leafAt h (path (count c) h j x) x) (j - count c (leftOf h (path (count c) h j x) x))
+select-leaf c h j x one place =
+    let l : Leads (count c) h j (path (count c) h j x) x = path-leads (count c) (count-additive c) h j x in
+    ap (λ xs. select c xs j) (l .marks)
+    ∙ select-middle (leftOf h (path (count c) h j x) x) (leafAt h (path (count c) h j x) x) (rightOf h (path (count c) h j x) x) c j (omega (arith, l .past)) (l .within place)

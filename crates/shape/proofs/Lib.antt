@@ -1,0 +1,15 @@
+pub mod Choice
+pub mod Folds
+pub mod Seat
+pub mod Chop
+pub mod Mend
+pub mod Marks
+pub mod Filled
+pub mod Room
+pub mod Height
+pub mod Splits
+pub mod Descent
+pub mod Steps
+pub mod Instances
+pub mod Examples
+pub mod Cut
