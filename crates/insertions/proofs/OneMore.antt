@@ -18,7 +18,8 @@ use Rattle.geometry.specs.Limits.{mostMarks, lastColumn}
 use Rattle.hex.specs.Lines.{lineOf}
 use Rattle.lines.specs.Lines.{Holds}
 use Rattle.lines.specs.declared.Gathered.{Gathered}
-use Rattle.insertions.specs.Frames.{insertCode, file, frameAt, framesFrom, framesOfLines, frameAfter}
+use Rattle.protocol.specs.Commands.{insertCode}
+use Rattle.insertions.specs.Frames.{file, frameAt, framesFrom, framesOfLines, frameAfter}
 
 frames-from-snoc : (place : ℕ) (lines : List (List ℕ)) (line : List ℕ)
     → framesFrom place (lines ++ (line ∷ [])) ≡ framesFrom place lines ++ frameAt (place + length lines) line

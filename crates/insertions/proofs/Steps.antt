@@ -17,7 +17,8 @@ use Rattle.lines.specs.declared.Gathered.{Gathered}
 use Rattle.lines.specs.declared.Gathering.{Gathering}
 use Rattle.lines.proofs.Cut.{ended-append, left-append, ended-plain, left-plain, ended-line, left-line}
 use Rattle.lines.proofs.Held.{no-last-line, last-line}
-use Rattle.insertions.specs.Frames.{insertCode, file, frameAt, framesOf, framesFrom, framesOfLines, frameAfter}
+use Rattle.protocol.specs.Commands.{insertCode}
+use Rattle.insertions.specs.Frames.{file, frameAt, framesOf, framesFrom, framesOfLines, frameAfter}
 use Rattle.insertions.specs.Stream.{Follows, Starts, TakesIn, GoesOn, PutsFrame, Ends}
 use Rattle.insertions.specs.declared.Progress.{Progress}
 use Rattle.insertions.specs.declared.Taken.{Taken}

@@ -9,10 +9,7 @@ use Rattle.fortran.specs.Mark.{markOf}
 use Rattle.geometry.specs.Limits.{mostMarks}
 use Rattle.hex.specs.Lines.{lineOf}
 use Rattle.lines.specs.Lines.{linesOf}
-
--- the code of an insert
-abbrev pub insertCode : ℕ
-insertCode = 0x03
+use Rattle.protocol.specs.Commands.{insertCode}
 
 -- the name that the marks go to
 abbrev pub file : ℕ

@@ -14,6 +14,7 @@ use hex::LINE_SIZE;
 use hex::write_line;
 use lines::Gathered;
 use lines::gather;
+use protocol::Command;
 
 // How far a file has been read, beside the buffer that holds the first columns of its unfinished line.
 pub struct Progress {
@@ -128,7 +129,15 @@ fn put_frame(line: &[u8], lines: usize, out: &mut [u8], filled: usize) -> usize
     ensures { λ r. ⌜ PutsFrame (now (line .entry)) lines (now (out .entry)) (now (out .exit)) filled r ⌝ }
 {
     if lines < Record::MOST_MARKS {
-        write_line(out, filled, INSERT, FILE, mark(line), 0, (lines + 1) as u32);
+        write_line(
+            out,
+            filled,
+            Command::INSERT,
+            FILE,
+            mark(line),
+            0,
+            (lines + 1) as u32,
+        );
         return filled + LINE_SIZE;
     }
     filled
@@ -144,9 +153,6 @@ fn one_more(lines: usize) -> usize
         Record::MOST_MARKS
     }
 }
-
-// the code of an insert
-const INSERT: u8 = 3;
 
 // the name that the marks go to
 const FILE: u8 = 0;

@@ -1,0 +1,10 @@
+pub mod EdgesHold
+pub mod Bytes
+pub mod Bools
+pub mod Order
+pub mod Statuses
+pub mod Rows
+pub mod Replies
+pub mod Accepted
+pub mod Validity
+pub mod Agreement
