@@ -21,7 +21,7 @@ use Rattle.protocol.proofs.Rows.{by-row}
 
 module _ {A : Type 0} where
   -- what holds of every name's part, and of a new one, holds of every name's part after the new one has taken a name's place
-  each-after-set : (P : Part A → Type 0) (parts : List (Part A)) (name : ℕ) (new : Part A)
+  pub each-after-set : (P : Part A → Type 0) (parts : List (Part A)) (name : ℕ) (new : Part A)
       → P new → ((other : ℕ) → P (getD parts other closed)) → (other : ℕ) → P (getD (set parts name new) other closed)
   each-after-set P [] name new here all other = all other
   each-after-set P (p ∷ ps) zero new here all zero = here
@@ -40,7 +40,7 @@ module _ {A : Type 0} where
   edited-keeps-shares edit closed = refl
   edited-keeps-shares edit (opened alphabet q kept) = refl
 
-  formatted-is-closed : (many name : ℕ) → _≡_ {A = Part A} (getD (replicate many closed) name closed) closed
+  pub formatted-is-closed : (many name : ℕ) → _≡_ {A = Part A} (getD (replicate many closed) name closed) closed
   formatted-is-closed zero name = refl
   formatted-is-closed (suc many) zero = refl
   formatted-is-closed (suc many) (suc name) = formatted-is-closed many name
@@ -132,7 +132,7 @@ module _ {A : Type 0} (store : Store A) (faithful : Faithful store) where
         refl
 
     -- what holds of the part as it was and of the effect's holds of the reply's
-    by-status : (P : Part A → Type 0) → P part → (statusOf store free part c ≡ 0 → P (rowFor store c .effect free part c .part))
+    pub by-status : (P : Part A → Type 0) → P part → (statusOf store free part c ≡ 0 → P (rowFor store c .effect free part c .part))
         → P (reply store free part c .part)
     unfolding reply
     by-status P before after = go (statusOf store free part c) refl
