@@ -1,0 +1,107 @@
+-- A branch and its children: child k is item k of the shape, between those before and those after it; the blocks are the branch's own
+-- and the children's. All of it is the list of the children, cut at k.
+-- Assumes nothing.
+use mathlib.Core.Path.{_≡_, refl, sym, ap, _∙_}
+use mathlib.Core.List.{List, [], _∷_, _++_, map}
+use Prim.Native.Nat.{ℕ, zero, suc, _+_, _-_, _≤_, _<_}
+use native.Mathlib.Omega.{arith}
+use lib.ListN.{length, getD, take, drop, length-map, length-append, length-take, length-drop}
+use lib.Seq.{split-at, ext-getD}
+use Rattle.sequence.specs.Alphabet.{sumBelow}
+use Rattle.sequence.specs.Definition1.{isMark, count}
+use Rattle.sequence.specs.Items.{All}
+use Rattle.sequence.proofs.Measures.{Additive, count-additive}
+use Rattle.shape.specs.Blocks.{blocks}
+use Rattle.shape.specs.Level.{Takes}
+use Rattle.shape.specs.Nested.{Node, joined, total, flat}
+use Rattle.shape.proofs.Folds.{joined-append, total-joined}
+use Rattle.pool.specs.Blocks.{entries, link, children}
+use Rattle.pool.specs.Bytes.{from}
+use Rattle.pool.specs.Trees.{shapeAt, blocksAt}
+use Rattle.pool.proofs.Froms.{length-from, getD-from-start, take-from, drop-from, from-around, from-all, map-from, total-from, joined-from}
+use Rattle.pool.proofs.Lists.{joined-all, joined-map, total-map, total-same}
+use Rattle.pool.proofs.Sums.{sumBelow-same}
+
+module _ (p : List ℕ) where
+  -- the tree has as many blocks as its shape has nodes
+  pub length-blocksAt : (h b : ℕ) → length (blocksAt p h b) ≡ blocks h (shapeAt p h b)
+  length-blocksAt zero b = refl
+  length-blocksAt (suc h) b =
+      ap suc
+      (sym (total-joined length length-append (blocksAt p h) (children p b))
+      ∙ total-same (λ c. length (blocksAt p h c)) (λ c. blocks h (shapeAt p h c)) (children p b) (length-blocksAt h)
+      ∙ sym (total-map (blocks h) (shapeAt p h) (children p b)))
+
+  -- the branch that these links were written to
+  pub children-are : (b : ℕ) (cs : List ℕ) → entries p b ≡ length cs → ((k : ℕ) → k < length cs → link p b k ≡ getD cs k 0) → children p b ≡ cs
+  children-are b cs many each =
+      ext-getD 0 (children p b) cs (length-from (link p b) 0 (entries p b) ∙ many)
+      (λ k h. let l : k < entries p b = omega (arith, length-from (link p b) 0 (entries p b)) in getD-from-start (link p b) (entries p b) k 0 l ∙ each k (omega arith))
+
+  -- what holds of all blocks holds of the first, which is the tree's own
+  pub blocks-root : (P : ℕ → Type 0) (h b : ℕ) → All P (blocksAt p h b) → P b
+  blocks-root P zero b s = s .0
+  blocks-root P (suc h) b s = s .0
+
+  module _ (h b : ℕ) where
+    pub length-shape : length (shapeAt p (suc h) b) ≡ entries p b
+    length-shape = length-map (children p b) (shapeAt p h) ∙ length-from (link p b) 0 (entries p b)
+
+    -- the shape as a list of what stands at each child
+    shape-from : shapeAt p (suc h) b ≡ from (λ k. shapeAt p h (link p b k)) 0 (entries p b)
+    shape-from = map-from (shapeAt p h) (link p b) 0 (entries p b)
+
+    module _ (k : ℕ) (inside : k < entries p b) where
+      pub child-shape : getD (shapeAt p (suc h) b) k [] ≡ shapeAt p h (link p b k)
+      child-shape = ap (λ xs. getD xs k []) shape-from ∙ getD-from-start (λ j. shapeAt p h (link p b j)) (entries p b) k [] inside
+
+      pub shape-around : shapeAt p (suc h) b ≡ take k (shapeAt p (suc h) b) ++ shapeAt p h (link p b k) ∷ drop (suc k) (shapeAt p (suc h) b)
+      shape-around =
+          split-at (shapeAt p (suc h) b) k [] (omega (arith, length-shape))
+          ∙ ap (λ x. take k (shapeAt p (suc h) b) ++ x ∷ drop (suc k) (shapeAt p (suc h) b)) child-shape
+
+      pub blocks-child : (P : ℕ → Type 0) → All P (blocksAt p (suc h) b) → All P (blocksAt p h (link p b k))
+      blocks-child P s = from-all (λ c. All P (blocksAt p h c)) (link p b) (entries p b) k inside (joined-all P (blocksAt p h) (children p b) (s .1))
+
+      pub blocks-around : blocksAt p (suc h) b
+          ≡ b ∷ joined (blocksAt p h) (from (link p b) 0 k) ++ (blocksAt p h (link p b k) ++ joined (blocksAt p h) (from (link p b) (suc k) (entries p b - suc k)))
+      blocks-around =
+          ap (λ cs. b ∷ joined (blocksAt p h) cs) (from-around (link p b) (entries p b) k inside)
+          ∙ ap (λ bs. b ∷ bs) (joined-append (blocksAt p h) (from (link p b) 0 k) (link p b k ∷ from (link p b) (suc k) (entries p b - suc k)))
+
+    pub shape-before : (k : ℕ) → k ≤ entries p b → take k (shapeAt p (suc h) b) ≡ map (shapeAt p h) (from (link p b) 0 k)
+    shape-before k le =
+        ap (take k) shape-from ∙ take-from (λ j. shapeAt p h (link p b j)) (entries p b) k le ∙ sym (map-from (shapeAt p h) (link p b) 0 k)
+
+    pub shape-after : (k : ℕ) → k ≤ entries p b → drop k (shapeAt p (suc h) b) ≡ map (shapeAt p h) (from (link p b) k (entries p b - k))
+    shape-after k le =
+        ap (drop k) shape-from ∙ drop-from (λ j. shapeAt p h (link p b j)) (entries p b) k le ∙ sym (map-from (shapeAt p h) (link p b) k (entries p b - k))
+
+    -- how often a number stands among the blocks
+    pub count-blocks : (c : ℕ) → count c (blocksAt p (suc h) b) ≡ isMark c b + sumBelow (entries p b) (λ k. count c (blocksAt p h (link p b k)))
+    unfolding count
+    count-blocks c = ap (λ n. isMark c b + n) (joined-from (count c) (count-additive c) (blocksAt p h) (link p b) (entries p b))
+
+-- A branch whose entries tell a measure of their children's marks: m is what they tell.
+module _ (p : List ℕ) (h b : ℕ) (μ : List ℕ → ℕ) (additive : Additive μ) (m : ℕ → ℕ) (told : (k : ℕ) → k < entries p b → m k ≡ μ (flat h (shapeAt p h (link p b k)))) where
+  pub told-before : (k : ℕ) → k ≤ entries p b → sumBelow k m ≡ total (λ y. μ (flat h y)) (take k (shapeAt p (suc h) b))
+  told-before k le =
+      sumBelow-same k m (λ j. μ (flat h (shapeAt p h (link p b j)))) (λ j l. told j (omega arith))
+      ∙ sym (total-from (λ c. μ (flat h (shapeAt p h c))) (link p b) k) ∙ sym (total-map (λ y. μ (flat h y)) (shapeAt p h) (from (link p b) 0 k))
+      ∙ ap (total (λ y. μ (flat h y))) (sym (shape-before p h b k le))
+
+  pub told-all : sumBelow (entries p b) m ≡ μ (flat (suc h) (shapeAt p (suc h) b))
+  told-all =
+      sumBelow-same (entries p b) m (λ j. μ (flat h (shapeAt p h (link p b j)))) told
+      ∙ sym (joined-from μ additive (λ c. flat h (shapeAt p h c)) (link p b) (entries p b))
+      ∙ ap μ (sym (joined-map (flat h) (shapeAt p h) (children p b)))
+
+  -- the child that takes i, found by what the entries tell
+  pub told-takes : (i k : ℕ) → k < entries p b → (0 < k → sumBelow k m < i) → (suc k < entries p b → i ≤ sumBelow k m + m k)
+      → Takes (λ y. μ (flat h y)) i (take k (shapeAt p (suc h) b)) (shapeAt p h (link p b k)) (drop (suc k) (shapeAt p (suc h) b))
+  told-takes i k inside past reach =
+      let x : Node (suc h) = shapeAt p (suc h) b in
+      record {
+        past = λ (l : 0 < length (take k x)). omega (arith, past (omega (arith, length-take k x)), told-before k (omega arith));
+        reach = λ (l : 0 < length (drop (suc k) x)). omega (arith, reach (omega (arith, length-drop (suc k) x, length-shape p h b)), told-before k (omega arith), told k inside);
+      }

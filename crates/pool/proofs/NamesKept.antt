@@ -1,0 +1,95 @@
+-- A change that leaves a name's record and blocks alone leaves the name: what its record says, its tree, its blocks and that it is sound.
+-- The record is equal, and the rest are the laws of trees at its root.
+-- Assumes nothing.
+use mathlib.Core.Path.{_≡_, sym, ap, ap₂, _∙_}
+use mathlib.Core.Bool.{cond}
+use mathlib.Core.List.{List, []}
+use mathlib.Core.Logic.{_⊎_, inl, inr, ⊎-elim}
+use Prim.Native.Nat.{ℕ, suc, _+_, _*_, _<_}
+use native.Mathlib.Omega.{arith}
+use lib.Dec.{eqb}
+use Rattle.geometry.specs.Layout.{recordSize, kindAt, alphabetAt, heightAt, zeroAt, qAt, rootAt, lengthAt, kindClosed}
+use Rattle.geometry.specs.Limits.{names}
+use Rattle.geometry.specs.declared.Record.{Record}
+use Rattle.sequence.specs.Items.{All}
+use Rattle.shape.specs.Fill.{rootLeast}
+use Rattle.shape.specs.Nested.{marksIn}
+use Rattle.shape.specs.Trees.{Tree}
+use Rattle.pool.specs.Bytes.{byte, word, recordAt}
+use Rattle.pool.specs.Changes.{SameBlock, Only}
+use Rattle.pool.specs.Names.{recordOf, treeOf, pathOf, blocksOf}
+use Rattle.pool.specs.Sound.{ClosedName, OpenName}
+use Rattle.pool.specs.Trees.{shapeAt, blocksAt, pathAt}
+use Rattle.pool.specs.Untouched.{SameBlocks, SameRecord, Untouched}
+use Rattle.pool.proofs.Children.{blocks-root}
+use Rattle.pool.proofs.Frames.{only-same, same-block, shape-kept, blocks-kept, path-kept, below-kept}
+use Rattle.pool.proofs.SoundNames.{closed-blocks, open-blocks, open-readable}
+use Rattle.pool.proofs.Written.{record-same}
+
+-- a change of other blocks only
+pub only-untouched : (These : ℕ → Type 0) (name : ℕ) (p p′ : List ℕ) → name < names → Only These p p′ → All (λ b. These b → ⊥) (blocksOf p name) → Untouched name p p′
+only-untouched These name p p′ low only none = record {
+  long = only .long;
+  entry = λ j l. only .directory (recordAt name + j) (omega arith);
+  held = only-same These p p′ only (blocksOf p name) none;
+}
+
+module _ (name : ℕ) (p p′ : List ℕ) (same : SameRecord name p p′) where
+  pub record-kept : recordOf p′ name ≡ recordOf p name
+  record-kept = record-same p p′ name same
+
+  pub closed-kept : ClosedName p name → ClosedName p′ name
+  closed-kept closed j l = same j l ∙ closed j l
+
+-- An open name.
+module _ (name : ℕ) (p p′ : List ℕ) (kept : Untouched name p p′) (open-name : OpenName p name) where
+  same-blocks : SameBlocks (blocksAt p (recordOf p name .height) (recordOf p name .root)) p p′
+  same-blocks = rw (open-blocks p name open-name) at (kept .held)
+
+  shape-of-kept : shapeAt p′ (recordOf p name .height) (recordOf p name .root) ≡ shapeAt p (recordOf p name .height) (recordOf p name .root)
+  shape-of-kept = shape-kept p p′ (kept .long) (recordOf p name .height) (recordOf p name .root) (open-readable p name open-name) same-blocks
+
+  pub tree-kept : treeOf p′ name ≡ treeOf p name
+  tree-kept =
+      ap {B = Tree} (λ (r : Record). record { height = r .height; root = shapeAt p′ (r .height) (r .root) }) (record-kept name p p′ (kept .entry))
+      ∙ ap {B = Tree} (λ x. record { height = recordOf p name .height; root = x }) shape-of-kept
+
+  pub path-of-kept : (i : ℕ) → pathOf p′ name i ≡ pathOf p name i
+  path-of-kept i =
+      ap (λ (r : Record). pathAt p′ (r .height) i (r .root)) (record-kept name p p′ (kept .entry))
+      ∙ path-kept p p′ (kept .long) (recordOf p name .height) i (recordOf p name .root) (open-readable p name open-name) same-blocks
+
+  pub open-kept : OpenName p′ name
+  open-kept =
+      let same : recordOf p′ name ≡ recordOf p name = record-kept name p p′ (kept .entry) in
+      let h : ℕ = recordOf p name .height in
+      let b : ℕ = recordOf p name .root in
+      record {
+        kind = rw same (open-name .kind);
+        alphabetLeast = rw same (open-name .alphabetLeast);
+        alphabetMost = rw same (open-name .alphabetMost);
+        promise = rw same (open-name .promise);
+        height = rw same (open-name .height);
+        zeroByte = kept .entry zeroAt (omega arith) ∙ open-name .zeroByte;
+        spare = λ j low l. kept .entry j l ∙ open-name .spare j low l;
+        root = rw same (same-block p p′ b (blocks-root p (λ x. SameBlock x p p′) h b same-blocks) (kept .long) (rootLeast h) h (open-name .root));
+        below = rw same (below-kept p p′ (kept .long) (recordOf p name .alphabet) h b (open-readable p name open-name) same-blocks (open-name .below));
+        length = rw same (open-name .length ∙ ap (marksIn h) (sym shape-of-kept));
+        room = rw same (open-name .room);
+      }
+
+  blocks-of-kept : blocksOf p′ name ≡ blocksOf p name
+  unfolding blocksOf
+  blocks-of-kept =
+      ap (λ (r : Record). cond (eqb (r .kind) kindClosed) [] (blocksAt p′ (r .height) (r .root))) (record-kept name p p′ (kept .entry))
+      ∙ ap (λ bs. cond (eqb (recordOf p name .kind) kindClosed) [] bs)
+      (blocks-kept p p′ (kept .long) (recordOf p name .height) (recordOf p name .root) (open-readable p name open-name) same-blocks)
+
+-- Any name.
+pub blocks-of-untouched : (name : ℕ) (p p′ : List ℕ) → Untouched name p p′ → ClosedName p name ⊎ OpenName p name → blocksOf p′ name ≡ blocksOf p name
+blocks-of-untouched name p p′ kept either =
+    ⊎-elim (λ closed. closed-blocks p′ name (closed-kept name p p′ (kept .entry) closed) ∙ sym (closed-blocks p name closed))
+    (blocks-of-kept name p p′ kept) either
+
+pub name-untouched : (name : ℕ) (p p′ : List ℕ) → Untouched name p p′ → ClosedName p name ⊎ OpenName p name → ClosedName p′ name ⊎ OpenName p′ name
+name-untouched name p p′ kept either = ⊎-elim (λ closed. inl (closed-kept name p p′ (kept .entry) closed)) (λ open-name. inr (open-kept name p p′ kept open-name)) either

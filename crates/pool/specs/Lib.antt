@@ -1,0 +1,12 @@
+pub mod Bytes
+pub mod Blocks
+pub mod Trees
+pub mod Changes
+pub mod Words
+pub mod Names
+pub mod Records
+pub mod Sound
+pub mod Shares
+pub mod Untouched
+pub mod Meaning
+pub mod Formatted

@@ -1,0 +1,39 @@
+-- What stands below a block of a level: its shape, its blocks, the way down to a place, and what its own bytes say of its marks.
+-- Assumes nothing.
+use mathlib.Core.List.{List, [], _∷_, map}
+use Prim.Native.Nat.{ℕ, zero, suc}
+use lib.ListN.{length}
+use Rattle.sequence.specs.Alphabet.{sumBelow}
+use Rattle.sequence.specs.Definition1.{count}
+use Rattle.shape.specs.Nested.{Node, joined}
+use Rattle.shape.specs.Paths.{path}
+use Rattle.pool.specs.Blocks.{entries, leafMarks, link, marksBelow, countBelow, children}
+
+-- the shape of the tree at a block of level h
+abbrev pub shapeAt : List ℕ → (h : ℕ) → ℕ → Node h
+shapeAt p zero b = leafMarks p b
+shapeAt p (suc h) b = map (shapeAt p h) (children p b)
+
+-- its blocks, itself first
+abbrev pub blocksAt : List ℕ → ℕ → ℕ → List ℕ
+blocksAt p zero b = b ∷ []
+blocksAt p (suc h) b = b ∷ joined (blocksAt p h) (children p b)
+
+-- the blocks entered on the way down by these numbers of children
+abbrev pub entered : List ℕ → ℕ → List ℕ → List ℕ
+entered p b [] = b ∷ []
+entered p b (k ∷ ks) = b ∷ entered p (link p b k) ks
+
+-- the blocks from this one to the leaf that bears place i
+abbrev pub pathAt : List ℕ → ℕ → ℕ → ℕ → List ℕ
+pathAt p h i b = entered p b (path length h i (shapeAt p h b))
+
+-- how many marks a block says it has: a leaf by its size, a branch by its entries
+abbrev pub ownMarks : List ℕ → ℕ → ℕ → ℕ
+ownMarks p zero b = entries p b
+ownMarks p (suc h) b = sumBelow (entries p b) (marksBelow p b)
+
+-- how many of them are c
+abbrev pub ownCount : List ℕ → ℕ → ℕ → ℕ → ℕ
+ownCount p zero b c = count c (leafMarks p b)
+ownCount p (suc h) b c = sumBelow (entries p b) (λ k. countBelow p b k c)
