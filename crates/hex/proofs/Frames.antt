@@ -2,17 +2,16 @@
 -- line, and a number is read back from its digits.
 -- Assumes nothing.
 use mathlib.Core.Path.{_≡_, refl, sym, ap, _∙_}
-use mathlib.Core.Bool.{Bool, true, false, cond, _&&_, and-true}
+use mathlib.Core.Bool.{true, false}
 use mathlib.Core.List.{List, [], _∷_, _++_}
-use Prim.Native.Nat.{ℕ, zero, suc, _+_, _*_, _^_, _≤_, _<_}
+use Prim.Native.Nat.{ℕ, zero, suc, _+_, _^_, _<_}
 use native.Mathlib.Omega.{arith}
 use borrow.Author.Tests.{eq-eqb, ne-eqb}
-use lib.Dec.{ltb, eqb}
-use lib.ListN.{length, take, drop, length-append}
+use lib.Dec.{ltb}
+use lib.ListN.{length, take, drop}
 use lib.Seq.{take-at, drop-at, take-all, drop-drop}
 use Rattle.hex.specs.Digits.{valueOf, allDigits, numberOf, digitsOf}
 use Rattle.hex.specs.Lines.{lineDigits, spelled, frameOf, numbersOf, digitsOfFrame}
-use Rattle.hex.specs.declared.read.Reading.{Reading}
 use Rattle.hex.specs.declared.read.Reading.the-variants.{Frame, Bad}
 use Rattle.hex.proofs.Written.{length-of-frame}
 use Rattle.hex.proofs.Numbers.{first-of-both, second-of-both, all-digits-append, digits-are-digits, length-of-digits, number-of-digits}

@@ -4,16 +4,16 @@
 use mathlib.Core.Path.{_≡_, refl, ap, sym, _∙_}
 use mathlib.Core.Bool.{Bool, true, false, _&&_, and-assoc}
 use mathlib.Core.List.{List, [], _∷_, _++_, append-nil, append-assoc}
-use Prim.Native.Nat.{ℕ, zero, suc, _+_, _-_, _*_, _/_, _%_, _^_, _≤_, _<_}
+use Prim.Native.Nat.{ℕ, zero, suc, _+_, _*_, _/_, _%_, _^_, _≤_, _<_}
 use native.Mathlib.Nat.{pow-succ', pow-le-pow-right, mul-le-mul-right, mul-left-comm, mul-assoc, add-suc, add-zero, mul-one}
 use native.Mathlib.Numerals.{add-one}
 use native.Mathlib.Omega.{arith}
 use lib.Dec.{ltb}
-use lib.ListN.{length, getD, take, drop, length-append}
+use lib.ListN.{length, getD, drop, length-append}
 use lib.Seq.{drop-cons}
 use borrow.Author.Tests.{lt-ltb, ltb-true}
 use Rattle.hex.specs.Digits.{valueOf, digitOf, digitsOf, allDigits, numberAfter, numberOf}
-use Rattle.hex.proofs.Rules.{valuesFrom, values-at}
+use Rattle.hex.proofs.Rules.{values-at}
 
 -- a digit's value is the value that it was written for
 pub value-of-digit : (value : ℕ) → value < 16 → valueOf (digitOf value) ≡ value

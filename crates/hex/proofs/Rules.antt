@@ -5,7 +5,6 @@ use mathlib.Core.Path.{_≡_, ap, _∙_, sym}
 use mathlib.Core.List.{List, [], _∷_}
 use Prim.Native.Nat.{ℕ, zero, suc, _+_, _<_}
 use native.Mathlib.Nat.{add-zero, zero-add, add-suc, suc-add, le-of-suc-le-suc, not-suc-le-zero}
-use native.Mathlib.Omega.{arith}
 use lib.ListN.{getD}
 
 -- the values of a rule at `many` places from `first` on

@@ -1,12 +1,11 @@
 -- What the two loops that read know at each turn: the bytes from i on decide the whole, and the number so far fits.
 -- Assumes nothing.
-use mathlib.Core.Path.{_≡_, refl, sym, ap, _∙_}
-use mathlib.Core.Bool.{Bool, true, false, _&&_}
-use mathlib.Core.List.{List, []}
+use mathlib.Core.Path.{_≡_, sym, _∙_}
+use mathlib.Core.Bool.{true, false}
+use mathlib.Core.List.{List}
 use Prim.Native.Nat.{ℕ, _+_, _*_, _^_, _≤_, _<_}
 use native.Mathlib.Omega.{arith}
 use borrow.Author.Tests.{lt-ltb, le-ltb}
-use lib.Dec.{ltb}
 use lib.ListN.{length, getD, drop, drop-of-length-le}
 use Rattle.hex.specs.Digits.{valueOf, allDigits, numberAfter, numberOf}
 use Rattle.hex.proofs.Numbers.{all-digits-from, number-from, number-grows, number-fits}

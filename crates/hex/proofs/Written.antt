@@ -2,12 +2,12 @@
 -- are always the whole number's digits and the buffer behind them.
 -- Assumes nothing.
 use mathlib.Core.Path.{_≡_, refl, sym, ap, ap₂, _∙_}
-use mathlib.Core.List.{List, [], _∷_, _++_, append-assoc, append-nil}
+use mathlib.Core.List.{List, [], _∷_, _++_, append-assoc}
 use Prim.Native.Nat.{ℕ, zero, suc, _+_, _-_, _*_, _/_, _%_, _^_, _≤_, _<_}
 use native.Mathlib.Nat.{add-suc, add-zero}
 use native.Mathlib.Omega.{arith}
-use native.Mathlib.Numerals.{add-one, sub-one}
-use lib.ListN.{length, getD, take, drop, set, length-set, length-append, take-append-drop}
+use native.Mathlib.Numerals.{sub-one}
+use lib.ListN.{length, take, drop, set, length-set, length-append, take-append-drop}
 use lib.Seq.{drop-cons, take-take, take-set-le, drop-set-lt, getD-set-same, take-all, paste, paste-suc, take-append-le, append-snoc, getD-append-seam}
 use Rattle.hex.specs.Digits.{digitOf, digitsOf}
 use Rattle.hex.specs.Lines.{digitsOfFrame, lineDigits, lineOf, lineSize}

@@ -12,7 +12,7 @@ use Rattle.geometry.specs.Limits.{mostMarks, lastColumn}
 use Rattle.fortran.specs.Mark.{markOf}
 use Rattle.hex.specs.Lines.{lineOf, lineSize}
 use Rattle.hex.proofs.Written.{length-of-line}
-use Rattle.lines.specs.Lines.{Stands, Holds, Gathers, Finishes, ended, left, trim, piece, endBytes, lastLine, linesOf, lineFeed}
+use Rattle.lines.specs.Lines.{Stands, Holds, Gathers, Finishes, ended, left, trim, piece, endBytes, linesOf}
 use Rattle.lines.specs.declared.Gathered.{Gathered}
 use Rattle.lines.specs.declared.Gathering.{Gathering}
 use Rattle.lines.proofs.Cut.{ended-append, left-append, ended-plain, left-plain, ended-line, left-line}

@@ -3,12 +3,12 @@
 use mathlib.Core.Path.{_≡_, refl, _∙_}
 use mathlib.Core.List.{List}
 use mathlib.Core.Logic.{_⊎_, inl, inr}
-use Prim.Native.Nat.{ℕ, _+_, _*_, _≤_, _<_}
+use Prim.Native.Nat.{ℕ, _+_, _≤_, _<_}
 use native.Mathlib.Omega.{arith}
 use Rattle.geometry.specs.Layout.{wordSize}
 use Rattle.geometry.specs.Limits.{blockSize, directorySize}
 use Rattle.shape.proofs.Choice.{by-leb}
-use Rattle.pool.specs.Bytes.{byte, word, blockAt}
+use Rattle.pool.specs.Bytes.{word, blockAt}
 use Rattle.pool.specs.Changes.{Outside, SameBlock, Only}
 use Rattle.pool.proofs.Words.{word-same, word-in-stretch}
 

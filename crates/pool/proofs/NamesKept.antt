@@ -1,21 +1,21 @@
 -- A change that leaves a name's record and blocks alone leaves the name: what its record says, its tree, its blocks and that it is sound.
 -- The record is equal, and the rest are the laws of trees at its root.
 -- Assumes nothing.
-use mathlib.Core.Path.{_≡_, sym, ap, ap₂, _∙_}
+use mathlib.Core.Path.{_≡_, sym, ap, _∙_}
 use mathlib.Core.Bool.{cond}
 use mathlib.Core.List.{List, []}
 use mathlib.Core.Logic.{_⊎_, inl, inr, ⊎-elim}
-use Prim.Native.Nat.{ℕ, suc, _+_, _*_, _<_}
+use Prim.Native.Nat.{ℕ, _+_, _<_}
 use native.Mathlib.Omega.{arith}
 use lib.Dec.{eqb}
-use Rattle.geometry.specs.Layout.{recordSize, kindAt, alphabetAt, heightAt, zeroAt, qAt, rootAt, lengthAt, kindClosed}
+use Rattle.geometry.specs.Layout.{zeroAt, kindClosed}
 use Rattle.geometry.specs.Limits.{names}
 use Rattle.geometry.specs.declared.Record.{Record}
 use Rattle.sequence.specs.Items.{All}
 use Rattle.shape.specs.Fill.{rootLeast}
 use Rattle.shape.specs.Nested.{marksIn}
 use Rattle.shape.specs.Trees.{Tree}
-use Rattle.pool.specs.Bytes.{byte, word, recordAt}
+use Rattle.pool.specs.Bytes.{recordAt}
 use Rattle.pool.specs.Changes.{SameBlock, Only}
 use Rattle.pool.specs.Names.{recordOf, treeOf, pathOf, blocksOf}
 use Rattle.pool.specs.Sound.{ClosedName, OpenName}

@@ -1,18 +1,17 @@
 -- What a sound pool says of its names: document 01's promises of blocks and depth, from the theory of the tree at the name's own tree;
 -- and the free blocks, since no block is held twice.
 -- Assumes nothing.
-use mathlib.Core.Path.{_≡_, ap, ap₂, _∙_}
+use mathlib.Core.Path.{_≡_, ap, _∙_}
 use mathlib.Core.Bool.{cond}
 use mathlib.Core.List.{List, []}
 use mathlib.Core.Logic.{⊎-elim}
-use Prim.Native.Nat.{ℕ, suc, _+_, _-_, _*_, _/_, _^_, _≤_, _<_, max}
+use Prim.Native.Nat.{ℕ, _+_, _-_, _*_, _/_, _^_, _≤_, _<_, max}
 use native.Mathlib.Omega.{arith}
 use lib.Dec.{eqb}
 use lib.ListN.{length, length-append}
 use borrow.Author.Tests.{ne-eqb}
-use Rattle.geometry.specs.Layout.{recordSize, kindAt, alphabetAt, heightAt, qAt, rootAt, lengthAt, kindClosed}
+use Rattle.geometry.specs.Layout.{kindClosed}
 use Rattle.geometry.specs.Limits.{names, marksPerShare, marksPerDepth}
-use Rattle.geometry.specs.Records.{closedRecord}
 use Rattle.geometry.specs.declared.Record.{Record}
 use Rattle.sequence.specs.Alphabet.{AllBelow, sumBelow}
 use Rattle.sequence.specs.Definition1.{count}
@@ -28,7 +27,7 @@ use Rattle.shape.proofs.Filled.{insertT-filled}
 use Rattle.shape.proofs.Instances.{oneToAByte-proper, blocks-in-shares, depth-in-rule}
 use Rattle.shape.proofs.Marks.{insertT-marks}
 use Rattle.shape.proofs.Splits.{insertT-blocks}
-use Rattle.pool.specs.Bytes.{byte, word, shares, recordAt, from}
+use Rattle.pool.specs.Bytes.{shares, from}
 use Rattle.pool.specs.Names.{recordOf, treeOf, pathOf, blocksOf, heldBlocks}
 use Rattle.pool.specs.Shares.{freeBlocks, promisedShares, unpromisedShares}
 use Rattle.pool.specs.Sound.{ClosedName, OpenName, Distinct, Sound}

@@ -2,10 +2,10 @@
 -- Assumes nothing.
 use mathlib.Core.Path.{_≡_, refl, sym, ap, _∙_}
 use mathlib.Core.List.{List}
-use Prim.Native.Nat.{ℕ, zero, suc, _+_, _-_, _*_, _≤_, _<_}
+use Prim.Native.Nat.{ℕ, zero, suc, _+_, _-_, _≤_, _<_}
 use native.Mathlib.Omega.{arith}
 use Rattle.geometry.specs.Layout.{recordSize, kindAt, alphabetAt, heightAt, zeroAt, qAt, rootAt, lengthAt, spareAt}
-use Rattle.geometry.specs.Limits.{directorySize, names}
+use Rattle.geometry.specs.Limits.{names}
 use Rattle.geometry.specs.Records.{closedRecord}
 use Rattle.geometry.specs.declared.Record.{Record}
 use Rattle.pool.specs.Bytes.{byte, word, recordAt}

@@ -4,11 +4,6 @@ use Rattle.insertions.proofs.Steps.{ends-whole, ends-open}
 use borrow.Author.Needs.{needs}
 use Rattle.insertions.proofs.finish.Statement.{statement}
 use Rattle.insertions.proofs.finish.Tie as tie
-use Rattle.insertions.proofs.finish.Reads as reads
-use Rattle.insertions.proofs.finish.Lts as lts
-use Rattle.fortran.proofs.first_columns.Reads as first-columns-reads
-use Rattle.insertions.proofs.put_frame.Reads as put-frame-reads
-use Rattle.lines.proofs.finish.Reads as finish-reads
 
 finish-requires : tie.Need-finish-requires
 finish-requires c κs = search needs

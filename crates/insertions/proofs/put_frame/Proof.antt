@@ -4,10 +4,6 @@ use Rattle.insertions.proofs.Steps.{frame-put, no-frame-put}
 use borrow.Author.Needs.{needs}
 use Rattle.insertions.proofs.put_frame.Statement.{statement}
 use Rattle.insertions.proofs.put_frame.Tie as tie
-use Rattle.insertions.proofs.put_frame.Reads as reads
-use Rattle.insertions.proofs.put_frame.Lts as lts
-use Rattle.fortran.proofs.mark.Reads as mark-reads
-use Rattle.hex.proofs.write_line.Reads as write-line-reads
 
 mark-requires : tie.Need-mark-requires
 mark-requires c κs = search needs

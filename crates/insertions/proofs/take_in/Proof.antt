@@ -5,14 +5,11 @@ use mathlib.Core.Path.{_≡_, refl}
 use Prim.Native.Nat.{ℕ, zero, suc, _+_, _-_, _≤_, _<_}
 use native.Mathlib.Omega.{arith}
 use borrow.Author.Needs.{needs}
-use lib.ListN.{length, length-drop}
+use lib.ListN.{length}
 use Rattle.insertions.specs.Stream.{TakesIn}
 use Rattle.insertions.proofs.Steps.{none-yet, both-taken, length-rest}
 use Rattle.insertions.proofs.take_in.Statement.{statement}
 use Rattle.insertions.proofs.take_in.Tie as tie
-use Rattle.insertions.proofs.take_in.Reads as reads
-use Rattle.insertions.proofs.take_in.Lts as lts
-use Rattle.insertions.proofs.take_line.Reads as take-line-reads
 
 abbrev Inv-loop : tie.InvT-loop
 Inv-loop chunk keep₀ out₀ at₀ filled₀ progress₀ keep out at filled progress =

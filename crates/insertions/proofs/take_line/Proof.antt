@@ -4,13 +4,6 @@ use Rattle.insertions.proofs.Steps.{line-taken, none-taken}
 use borrow.Author.Needs.{needs}
 use Rattle.insertions.proofs.take_line.Statement.{statement}
 use Rattle.insertions.proofs.take_line.Tie as tie
-use Rattle.insertions.proofs.take_line.Reads as reads
-use Rattle.insertions.proofs.take_line.Lts as lts
-use Rattle.fortran.proofs.first_columns.Reads as first-columns-reads
-use Rattle.insertions.proofs.one_more.Reads as one-more-reads
-use Rattle.insertions.proofs.put_frame.Reads as put-frame-reads
-use Rattle.lines.proofs.Gathered.start.Reads as start-reads
-use Rattle.lines.proofs.gather.Reads as gather-reads
 
 gather-requires : tie.Need-gather-requires
 gather-requires c κs = search needs

@@ -2,17 +2,11 @@
 -- Assumes nothing.
 use mathlib.Core.Path.{_≡_}
 use Prim.Native.Nat.{_≤_}
-use native.Mathlib.Omega.{arith}
 use borrow.Author.Needs.{needs}
 use lib.ListN.{length}
 use Rattle.hex.specs.Lines.{lineSize}
 use Rattle.marks.proofs.read_all.Statement.{statement}
 use Rattle.marks.proofs.read_all.Tie as tie
-use Rattle.marks.proofs.read_all.Reads as reads
-use Rattle.marks.proofs.read_all.Lts as lts
-use Rattle.insertions.proofs.Progress.start.Reads as start-reads
-use Rattle.marks.proofs.read_once.Reads as read-once-reads
-use Rattle.marks.proofs.write_last.Reads as write-last-reads
 
 abbrev Inv-loop : tie.InvT-loop
 Inv-loop keep₀ chunk₀ out₀ progress₀ turns₀ keep chunk out progress turns =

@@ -10,10 +10,6 @@ use Rattle.hex.specs.Lines.{lineSize}
 use Rattle.insertions.proofs.Steps.{length-rest}
 use Rattle.marks.proofs.write_frames.Statement.{statement}
 use Rattle.marks.proofs.write_frames.Tie as tie
-use Rattle.marks.proofs.write_frames.Reads as reads
-use Rattle.marks.proofs.write_frames.Lts as lts
-use Rattle.insertions.proofs.take_in.Reads as take-in-reads
-use Rattle.marks.proofs.write_out.Reads as write-out-reads
 
 abbrev Inv-loop : tie.InvT-loop
 Inv-loop chunk keep₀ out₀ progress₀ at₀ keep out progress at =

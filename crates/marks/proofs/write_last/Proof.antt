@@ -5,10 +5,6 @@ use lib.Seq.{length-take-le}
 use borrow.Author.Needs.{needs}
 use Rattle.marks.proofs.write_last.Statement.{statement}
 use Rattle.marks.proofs.write_last.Tie as tie
-use Rattle.marks.proofs.write_last.Reads as reads
-use Rattle.marks.proofs.write_last.Lts as lts
-use Rattle.insertions.proofs.finish.Reads as finish-reads
-use Rattle.marks.proofs.write_out.Reads as write-out-reads
 
 finish-requires : tie.Need-finish-requires
 finish-requires c κs = search needs

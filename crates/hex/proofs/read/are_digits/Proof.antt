@@ -1,19 +1,13 @@
 -- `hex::read::are_digits` meets its contract. The loop's invariant: whether the bytes from i on are digits decides the whole.
 -- Assumes nothing.
-use mathlib.Core.Path.{_≡_, sym, _∙_}
-use mathlib.Core.Bool.{cond}
-use Prim.Native.Nat.{_+_, _-_, _≤_}
-use native.Mathlib.Omega.{arith}
+use mathlib.Core.Path.{_≡_}
+use Prim.Native.Nat.{_-_, _≤_}
 use borrow.Author.Needs.{needs}
-use borrow.Author.Tests.{lt-ltb, le-ltb}
 use lib.ListN.{length, drop}
-use Rattle.hex.specs.Digits.{allDigits, valueOf}
+use Rattle.hex.specs.Digits.{allDigits}
 use Rattle.hex.proofs.Scans.{no-digit-at, digit-at, digits-to-the-end}
 use Rattle.hex.proofs.read.are_digits.Statement.{statement}
 use Rattle.hex.proofs.read.are_digits.Tie as tie
-use Rattle.hex.proofs.read.are_digits.Reads as reads
-use Rattle.hex.proofs.read.are_digits.Lts as lts
-use Rattle.hex.proofs.digit.value.Reads as value-reads
 
 abbrev Inv-loop : tie.InvT-loop
 Inv-loop line i₀ i = (i ≤ length line) × (allDigits (drop i line) ≡ allDigits line)

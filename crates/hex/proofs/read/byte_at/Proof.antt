@@ -6,14 +6,11 @@ use Prim.Native.Nat.{ℕ, _+_, _-_, _≤_}
 use native.Mathlib.Omega.{arith}
 use borrow.Author.Needs.{needs}
 use lib.ListN.{length, take, drop, length-take}
-use Rattle.hex.specs.Digits.{allDigits, numberOf}
+use Rattle.hex.specs.Digits.{numberOf}
 use Rattle.hex.proofs.Numbers.{number-fits}
 use Rattle.hex.proofs.Frames.{all-digits-part}
 use Rattle.hex.proofs.read.byte_at.Statement.{statement}
 use Rattle.hex.proofs.read.byte_at.Tie as tie
-use Rattle.hex.proofs.read.byte_at.Reads as reads
-use Rattle.hex.proofs.read.byte_at.Lts as lts
-use Rattle.hex.proofs.read.number.Reads as number-reads
 
 add-number : tie.Need-add-number
 add-number c = search needs

@@ -2,18 +2,14 @@
 -- The number so far is at most the whole one, which fits.
 -- Assumes nothing.
 use mathlib.Core.Path.{_≡_, refl}
-use mathlib.Core.Bool.{true}
-use Prim.Native.Nat.{_+_, _-_, _≤_}
+use Prim.Native.Nat.{_-_, _≤_}
 use native.Mathlib.Omega.{arith}
 use borrow.Author.Needs.{needs}
 use lib.ListN.{length, drop}
-use Rattle.hex.specs.Digits.{allDigits, numberAfter, numberOf, valueOf}
+use Rattle.hex.specs.Digits.{numberAfter, numberOf}
 use Rattle.hex.proofs.Scans.{number-at, number-so-far-fits, number-to-the-end}
 use Rattle.hex.proofs.read.number.Statement.{statement}
 use Rattle.hex.proofs.read.number.Tie as tie
-use Rattle.hex.proofs.read.number.Reads as reads
-use Rattle.hex.proofs.read.number.Lts as lts
-use Rattle.hex.proofs.digit.value.Reads as value-reads
 
 abbrev Inv-loop : tie.InvT-loop
 Inv-loop digits number₀ i₀ number i = (i ≤ length digits) × (numberAfter number (drop i digits) ≡ numberOf digits)

@@ -11,11 +11,6 @@ use Rattle.hex.specs.Lines.{spelled}
 use Rattle.hex.proofs.Frames.{all-digits-part, frame-of-other-length, frame-of-no-digits, frame-of-digits}
 use Rattle.hex.proofs.read.read_line.Statement.{statement}
 use Rattle.hex.proofs.read.read_line.Tie as tie
-use Rattle.hex.proofs.read.read_line.Reads as reads
-use Rattle.hex.proofs.read.read_line.Lts as lts
-use Rattle.hex.proofs.read.are_digits.Reads as are-digits-reads
-use Rattle.hex.proofs.read.byte_at.Reads as byte-at-reads
-use Rattle.hex.proofs.read.number.Reads as number-reads
 
 returns : tie.Need-returns
 returns c = frame-of-other-length _ (c .if1 .taken)

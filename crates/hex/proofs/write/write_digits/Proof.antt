@@ -1,16 +1,12 @@
 -- `hex::write::write_digits` meets its contract. The loop's invariant is `Putting`, of which the laws in Written.antt speak.
 -- Assumes nothing.
-use Prim.Native.Nat.{_+_, _-_, _≤_}
-use native.Mathlib.Omega.{arith}
+use Prim.Native.Nat.{_+_, _≤_}
 use borrow.Author.Needs.{needs}
 use lib.ListN.{length}
 use Rattle.hex.specs.Lines.{lineDigits}
 use Rattle.hex.proofs.Written.{Putting, putting-none, putting-more, put-all}
 use Rattle.hex.proofs.write.write_digits.Statement.{statement}
 use Rattle.hex.proofs.write.write_digits.Tie as tie
-use Rattle.hex.proofs.write.write_digits.Reads as reads
-use Rattle.hex.proofs.write.write_digits.Lts as lts
-use Rattle.hex.proofs.digit.last_digit.Reads as last-digit-reads
 
 abbrev Inv-loop : tie.InvT-loop
 Inv-loop out₀ at number left₀ rest₀ out left rest = (at + lineDigits ≤ length out₀) × Putting lineDigits out₀ at number out left rest

@@ -1,14 +1,9 @@
 -- `hex::write::write_line` meets its contract: the one number that it writes has the frame's digits, and the line feed stands behind.
 -- Assumes nothing.
-use mathlib.Core.Path.{_≡_, sym, ap, _∙_}
-use native.Mathlib.Omega.{arith}
 use borrow.Author.Needs.{needs}
 use Rattle.hex.proofs.Written.{line-put}
 use Rattle.hex.proofs.write.write_line.Statement.{statement}
 use Rattle.hex.proofs.write.write_line.Tie as tie
-use Rattle.hex.proofs.write.write_line.Reads as reads
-use Rattle.hex.proofs.write.write_line.Lts as lts
-use Rattle.hex.proofs.write.write_digits.Reads as write-digits-reads
 
 mul-bytes : tie.Need-mul-bytes
 mul-bytes c = search needs

@@ -4,9 +4,6 @@ use Rattle.insertions.proofs.Steps.{starts}
 use borrow.Author.Needs.{needs}
 use Rattle.insertions.proofs.Progress.start.Statement.{statement}
 use Rattle.insertions.proofs.Progress.start.Tie as tie
-use Rattle.insertions.proofs.Progress.start.Reads as reads
-use Rattle.insertions.proofs.Progress.start.Lts as lts
-use Rattle.lines.proofs.Gathered.start.Reads as start-reads
 
 start-requires : tie.Need-start-requires
 start-requires c κs = search needs

@@ -1,0 +1,9 @@
+pub mod Products
+pub mod Stretches
+pub mod Gaps
+pub mod Parts
+pub mod Shares
+pub mod Leaves
+pub mod Rows
+pub mod Chunks
+pub mod Branches

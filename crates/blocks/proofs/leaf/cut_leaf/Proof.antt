@@ -1,0 +1,19 @@
+-- `blocks::leaf::cut_leaf` meets its contract, by the law of entries cut off.
+-- Assumes nothing.
+use native.Mathlib.Omega.{arith}
+use Rattle.blocks.proofs.Leaves.{leaf-size, leaf-cut}
+use borrow.Author.Needs.{needs}
+use Rattle.blocks.proofs.leaf.cut_leaf.Statement.{statement}
+use Rattle.blocks.proofs.leaf.cut_leaf.Tie as tie
+
+cut-off-requires : tie.Need-cut-off-requires
+cut-off-requires c κs = (search needs, search needs, search needs, omega (arith, leaf-size _ _ (c .before .before .pre .0)), search needs)
+
+same-length : tie.Need-same-length
+same-length c = search needs
+
+returns : tie.Need-returns
+returns c = search leaf-cut
+
+pub cut-leaf-spec : {M : Type 1} → statement M
+cut-leaf-spec = tie.close (tie.spec cut-off-requires same-length returns)

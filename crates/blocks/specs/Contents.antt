@@ -1,0 +1,45 @@
+-- The entries of a block as bytes: all of them in a row, and those of a branch one by one.
+-- Assumes nothing.
+use mathlib.Core.List.{List}
+use Prim.Native.Nat.{ℕ, _+_, _*_, _≤_, _<_}
+use lib.ListN.{take, drop}
+use Rattle.geometry.specs.Layout.{formAt, entrySize, entryMarksAt, entryCountsAt, wordSize, mostLeaf, mostBranch}
+use Rattle.pool.specs.Blocks.{entries, entryAt}
+use Rattle.pool.specs.Bytes.{word, shares, blockAt, from}
+
+-- the bytes of a block's entries, unit bytes each: 1 in a leaf, an entry's size in a branch
+unfoldable pub contents : ℕ → List ℕ → ℕ → List ℕ
+contents unit p b = take (unit * entries p b) (drop (blockAt b) p)
+
+-- the bytes of entry k of a branch
+abbrev pub entryBytes : List ℕ → ℕ → ℕ → List ℕ
+entryBytes p b k = take entrySize (drop (entryAt b k) p)
+
+-- a branch's entries in turn
+unfoldable pub entryList : List ℕ → ℕ → List (List ℕ)
+entryList p b = from (entryBytes p b) 0 (entries p b)
+
+-- what an entry's bytes say: the child's block, the marks below it, and how many of them are c
+abbrev pub linkIn : List ℕ → ℕ
+linkIn entry = word entry 0
+
+abbrev pub belowIn : List ℕ → ℕ
+belowIn entry = word entry entryMarksAt
+
+abbrev pub countIn : List ℕ → ℕ → ℕ
+countIn entry c = word entry (entryCountsAt + wordSize * c)
+
+-- so many entries, unit bytes each, stand before a block's form
+pub record Room (unit many : ℕ) : Type 0 where
+  pub few : many ≤ formAt
+  pub fits : unit * many ≤ formAt
+
+-- a block of the pool with no more entries than a leaf has
+pub record LeafAt (p : List ℕ) (b : ℕ) : Type 0 where
+  pub inside : b < shares p
+  pub fits : entries p b ≤ mostLeaf
+
+-- a block of the pool with no more entries than a branch has
+pub record BranchAt (p : List ℕ) (b : ℕ) : Type 0 where
+  pub inside : b < shares p
+  pub fits : entries p b ≤ mostBranch

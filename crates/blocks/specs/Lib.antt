@@ -1,0 +1,4 @@
+pub mod Contents
+pub mod Moves
+pub mod Leaves
+pub mod Branches

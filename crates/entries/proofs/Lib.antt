@@ -1,0 +1,6 @@
+pub mod Totals
+pub mod Filling
+pub mod Summaries
+pub mod Written
+pub mod Neighbours
+pub mod Telling

@@ -1,0 +1,23 @@
+// The entries of a branch, one at a time, and the summary of a block, which is what its parent's entry says of it.
+use geometry::Record;
+
+mod reads;
+mod stores;
+mod sums;
+
+pub use reads::count_below;
+pub use reads::entry_count;
+pub use reads::link;
+pub use reads::marks_below;
+pub use stores::add_mark;
+pub use stores::set_entry;
+pub use stores::take_mark;
+pub use sums::summary_of;
+pub use sums::summary_of_branch;
+pub use sums::summary_of_leaf;
+
+// How many marks a block has, and how many of them are each symbol.
+pub struct Summary {
+    pub marks: u16,
+    pub counts: [u16; Record::MOST_ALPHABET],
+}
