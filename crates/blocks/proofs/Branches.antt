@@ -3,10 +3,10 @@
 use mathlib.Core.Path.{_≡_, sym, ap, ap₂, _∙_}
 use mathlib.Core.List.{List, [], _∷_, _++_, map}
 use Prim.Native.Nat.{ℕ, suc, _+_, _-_, _*_, _/_, _≤_, _<_}
-use native.Mathlib.Nat.{zero-add, add-zero}
+use native.Mathlib.Nat.{add-zero}
 use native.Mathlib.Omega.{arith}
 use lib.ListN.{length, getD, take, drop, length-append}
-use lib.Seq.{length-take-le, take-at, drop-append-add}
+use lib.Seq.{length-take-le, take-at, drop-append-add, set-split}
 use Rattle.geometry.specs.Layout.{countAt, entrySize, entryMarksAt, entryCountsAt, wordSize, mostBranch}
 use Rattle.geometry.specs.Limits.{mostAlphabet}
 use Rattle.shape.specs.Level.{middle, halves}
@@ -14,14 +14,16 @@ use Rattle.shape.specs.Nested.{joined}
 use Rattle.shape.proofs.Choice.{by-leb}
 use Rattle.pool.specs.Blocks.{entries, entryAt, link, marksBelow, countBelow, children}
 use Rattle.pool.specs.Bytes.{word, shares, blockAt, from}
-use Rattle.pool.specs.Changes.{Outside}
-use Rattle.pool.proofs.Changed.{word-behind}
+use Rattle.pool.specs.Changes.{Outside, Only}
+use Rattle.pool.specs.Sound.{SoundBlock}
+use Rattle.pool.proofs.Changed.{word-behind, word-other}
 use Rattle.pool.proofs.Cuts.{cut-length, cut-word, cut-before, cut-behind}
-use Rattle.blocks.specs.Contents.{contents, entryBytes, entryList, linkIn, belowIn, countIn, BranchAt}
-use Rattle.blocks.specs.Moves.{Opened, Closed, CutOff, Joined, Recut}
+use Rattle.blocks.specs.Contents.{contents, entryBytes, entryList, linkIn, belowIn, countIn, Room, BranchAt}
+use Rattle.blocks.specs.Moves.{Opened, Closed, CutOff, Joined, SharedOut}
 use Rattle.blocks.specs.Branches.{EntryOpened, EntryRemoved, BranchCut, BranchesJoined, BranchesShared}
+use Rattle.blocks.proofs.Stretches.{contents-other}
 use Rattle.blocks.proofs.Chunks.{chunks, chunks-from, chunks-one, chunks-append, chunks-take, chunks-drop, chunks-joined}
-use Rattle.blocks.proofs.Rows.{length-from, getD-from, from-same, from-but, map-from}
+use Rattle.pool.proofs.Froms.{length-from, getD-from-start, from-same, from-set, map-from}
 
 -- what an entry's bytes say is what the block says
 
@@ -55,12 +57,12 @@ module _ (p : List ℕ) (b : ℕ) where
 
   pub entry-at : (k : ℕ) → k < entries p b → getD (entryList p b) k [] ≡ entryBytes p b k
   unfolding entryList
-  entry-at k h = getD-from (entryBytes p b) [] 0 (entries p b) k h ∙ ap (entryBytes p b) (zero-add k)
+  entry-at k h = getD-from-start (entryBytes p b) (entries p b) k [] h
 
   pub children-are : children p b ≡ map linkIn (entryList p b)
   unfolding entryList
   children-are =
-      from-same (λ k. linkIn (entryBytes p b k)) (link p b) 0 (entries p b) (λ k low high. sym (entry-link p b k))
+      from-same (link p b) (λ k. linkIn (entryBytes p b k)) 0 (entries p b) (λ k low high. sym (entry-link p b k))
       ∙ sym (map-from linkIn (entryBytes p b) 0 (entries p b))
 
 -- the entries are the bytes in a row, cut at the entries' size
@@ -78,7 +80,8 @@ module _ (p : List ℕ) (b : ℕ) (branch : BranchAt p b) where
       ∙ ap (λ (a : ℕ). chunks entrySize (entries p b) (take (entrySize * entries p b) (drop a p))) e
 
   pub entries-joined : joined (λ entry. entry) (entryList p b) ≡ contents entrySize p b
-  entries-joined = ap (joined (λ entry. entry)) entries-chunks ∙ chunks-joined entrySize (entries p b) (contents entrySize p b) contents-length
+  entries-joined =
+      ap (joined (λ entry. entry)) entries-chunks ∙ chunks-joined entrySize (entries p b) (contents entrySize p b) contents-length
 
   pub entries-take : (k : ℕ) → k ≤ entries p b → take k (entryList p b) ≡ chunks entrySize k (take (entrySize * k) (contents entrySize p b))
   entries-take k h =
@@ -97,6 +100,24 @@ module _ (p : List ℕ) (b : ℕ) (branch : BranchAt p b) where
   pub entries-are : (n : ℕ) (xs : List ℕ) → entries p b ≡ n → contents entrySize p b ≡ xs → entryList p b ≡ chunks entrySize n xs
   entries-are n xs many bytes = entries-chunks ∙ ap₂ (λ (m : ℕ) (z : List ℕ). chunks entrySize m z) many bytes
 
+-- a sound block above level 0 is a branch
+pub branch-sound : (p : List ℕ) (fewest h b : ℕ) → SoundBlock p fewest (suc h) b → BranchAt p b
+branch-sound p fewest h b sound = record { inside = sound .inside; fits = sound .fits }
+
+-- a change of other blocks leaves its entries alone
+pub entries-other : {These : ℕ → Type 0} {p q : List ℕ} → Only These p q → (b : ℕ) → (These b → ⊥) → BranchAt p b
+    → entryList q b ≡ entryList p b
+entries-other {p = p} {q = q} o b other branch =
+    let many : entries q b ≡ entries p b = word-other o b countAt other (omega arith) in
+    let after : BranchAt q b =
+    record { inside = omega (arith, branch .inside, o .long); fits = omega (arith, branch .fits) }
+    in
+    let room : Room entrySize (entries p b) =
+    record { few = omega (arith, branch .fits); fits = omega (arith, branch .fits) }
+    in
+    entries-are q b after (entries p b) (contents entrySize p b) many (contents-other o b other entrySize room)
+    ∙ sym (entries-chunks p b branch)
+
 -- one entry written, and one written into a gap
 
 pub entry-written : (p q : List ℕ) (b k : ℕ) → BranchAt p b → k < entries p b → Outside (entryAt b k) entrySize p q
@@ -105,14 +126,12 @@ unfolding entryList
 entry-written p q b k branch h o =
     let many : entries q b ≡ entries p b = word-behind o (blockAt b + countAt) (omega (arith, branch .fits)) in
     ap (from (entryBytes q b) 0) many
-    ∙ from-but (entryBytes p b) (entryBytes q b) 0 (entries p b) k h
-    (λ j other.
+    ∙ from-set (entryBytes p b) (entryBytes q b) (entries p b) k h
+    (λ j low other.
     by-leb {A = Unit {0}} (λ _. entryBytes q b j ≡ entryBytes p b j) j k tt tt
-    (λ (le : j ≤ k).
-    let less : j < k = let ne : j ≡ k → ⊥ = λ (e : j ≡ k). other (e ∙ sym (zero-add k)) in omega arith in
-    cut-before o (entryAt b j) entrySize (omega arith))
+    (λ (le : j ≤ k). let less : j < k = omega arith in cut-before o (entryAt b j) entrySize (omega arith))
     (λ (gt : k < j). cut-behind o (entryAt b j) entrySize (omega arith)))
-    ∙ ap (λ (n : ℕ). take k (from (entryBytes p b) 0 (entries p b)) ++ entryBytes q b n ∷ drop (suc k) (from (entryBytes p b) 0 (entries p b))) (zero-add k)
+    ∙ set-split (entryList p b) k (entryBytes q b k) (omega (arith, length-from (entryBytes p b) 0 (entries p b)))
 
 module _ (b k : ℕ) (p q : List ℕ) (branch : BranchAt p b) (less : k ≤ entries p b) (room : entries p b < mostBranch) where
   pub entry-filled : (r : List ℕ) → EntryOpened b k p q → Outside (entryAt b k) entrySize q r
@@ -204,7 +223,9 @@ module _ (left right : ℕ) (p q : List ℕ) (here : BranchAt p left) (there : B
       ≡ chunks entrySize (entries p left + entries p right) (contents entrySize p left ++ contents entrySize p right)
   entries-both =
       ap₂ (λ (x y : List (List ℕ)). x ++ y) (entries-chunks p left here) (entries-chunks p right there)
-      ∙ sym (chunks-append entrySize (entries p left) (entries p right) (contents entrySize p left) (contents entrySize p right) (contents-length p left here))
+      ∙ sym
+      (chunks-append entrySize (entries p left) (entries p right) (contents entrySize p left) (contents entrySize p right)
+      (contents-length p left here))
 
   pub branches-joined : entries p left + entries p right ≤ mostBranch → Joined entrySize left right p q → BranchesJoined left right p q
   branches-joined room whole =
@@ -218,7 +239,7 @@ module _ (left right : ℕ) (p q : List ℕ) (here : BranchAt p left) (there : B
         list = entries-are q left after _ _ (whole .many) (whole .bytes) ∙ sym entries-both;
       }
 
-  pub branches-shared : Recut entrySize left right ((entries p left + entries p right) / 2) p q → BranchesShared left right p q
+  pub branches-shared : SharedOut entrySize left right p q → BranchesShared left right p q
   unfolding halves
   branches-shared cut =
       let all = entries p left + entries p right in
@@ -226,7 +247,12 @@ module _ (left right : ℕ) (p q : List ℕ) (here : BranchAt p left) (there : B
       let bytes = contents entrySize p left ++ contents entrySize p right in
       let both = entryList p left ++ entryList p right in
       let long : length bytes ≡ entrySize * all =
-      omega (arith, length-append (contents entrySize p left) (contents entrySize p right), contents-length p left here, contents-length p right there)
+      omega (
+        arith,
+        length-append (contents entrySize p left) (contents entrySize p right),
+        contents-length p left here,
+        contents-length p right there,
+      )
       in
       let at-half : middle both ≡ half =
       omega (arith, length-append (entryList p left) (entryList p right), entries-length p left, entries-length p right)

@@ -12,14 +12,15 @@ use Rattle.sequence.specs.Definition1.{count, access, select, insert, delete}
 use Rattle.shape.specs.Level.{middle, halves}
 use Rattle.pool.specs.Blocks.{entries, leafMarks}
 use Rattle.pool.specs.Bytes.{byte, blockAt}
-use Rattle.pool.specs.Changes.{Outside}
+use Rattle.pool.specs.Changes.{Outside, Only}
+use Rattle.pool.specs.Sound.{SoundBlock}
 use Rattle.pool.specs.Words.{WordAt, PutByte}
 use Rattle.pool.proofs.Changed.{only-block, only-then, word-behind}
 use Rattle.pool.proofs.Cuts.{cut-length, cut-byte, cut-one}
 use Rattle.blocks.specs.Contents.{contents, LeafAt}
-use Rattle.blocks.specs.Moves.{Opened, Closed, CutOff, Joined, Recut}
+use Rattle.blocks.specs.Moves.{Opened, Closed, CutOff, Joined, SharedOut}
 use Rattle.blocks.specs.Leaves.{MarkInserted, MarkDeleted, LeafCut, LeavesJoined, LeavesShared}
-use Rattle.blocks.proofs.Stretches.{drop-stretch}
+use Rattle.blocks.proofs.Stretches.{drop-stretch, contents-other}
 use Rattle.blocks.proofs.Gaps.{gap-filled}
 
 -- a leaf's marks are its entries, one byte each
@@ -59,6 +60,17 @@ module _ (p : List ℕ) (b : ℕ) (leaf : LeafAt p b) where
       let e : blockAt b + n - blockAt b ≡ entries p b = omega (arith, is .is) in
       found ∙ ap (λ (k : ℕ). select c (take k (drop (blockAt b) p)) j) e
 
+-- a sound block of level 0 is a leaf
+pub leaf-sound : (p : List ℕ) (fewest b : ℕ) → SoundBlock p fewest 0 b → LeafAt p b
+leaf-sound p fewest b sound = record { inside = sound .inside; fits = sound .fits }
+
+-- a change of other blocks leaves its marks alone
+pub leaf-other : {These : ℕ → Type 0} {p q : List ℕ} → Only These p q → (b : ℕ) → (These b → ⊥) → LeafAt p b → leafMarks q b ≡ leafMarks p b
+leaf-other {p = p} {q = q} o b other leaf =
+    sym (leaf-contents q b)
+    ∙ contents-other o b other 1 (record { few = omega (arith, leaf .fits); fits = omega (arith, leaf .fits) })
+    ∙ leaf-contents p b
+
 -- the edits
 
 module _ (b i : ℕ) (p q : List ℕ) (leaf : LeafAt p b) (one : 1 ≤ i) where
@@ -69,6 +81,7 @@ module _ (b i : ℕ) (p q : List ℕ) (leaf : LeafAt p b) (one : 1 ≤ i) where
       let a = blockAt b in
       let size : length (leafMarks p b) ≡ entries p b = leaf-size p b leaf in
       let o : Outside (a + 1 * (i - 1)) 1 q r = rw one-mul (put .same) in
+      let inside : a + (i - 1) < length r = omega (arith, put .same .long, opened .only .long, leaf .inside) in
       record {
         only = only-then (opened .only) (only-block (put .same) b (omega arith) (omega arith));
         form = put .same .high (a + formAt) (omega arith) ∙ opened .form;
@@ -76,7 +89,7 @@ module _ (b i : ℕ) (p q : List ℕ) (leaf : LeafAt p b) (one : 1 ≤ i) where
         marks =
             sym (leaf-contents r b)
             ∙ gap-filled 1 b (i - 1) p q r (leaf .inside) (omega arith) (record { few = omega arith; fits = omega arith }) opened o
-            ∙ rw (one-mul (i - 1), leaf-contents p b, cut-one r (a + (i - 1)) (omega (arith, put .same .long, opened .only .long, leaf .inside)), put .put);
+            ∙ rw (one-mul (i - 1), leaf-contents p b, cut-one r (a + (i - 1)) inside, put .put);
       }
 
   pub mark-deleted : (r : ℕ) → r ≡ access (leafMarks p b) i → Closed 1 b (i - 1) p q → MarkDeleted b i r p q
@@ -113,11 +126,13 @@ leaves-joined left right p q joined =
     }
 
 pub leaves-shared : (left right : ℕ) (p q : List ℕ) → LeafAt p left → LeafAt p right
-    → Recut 1 left right ((entries p left + entries p right) / 2) p q → LeavesShared left right p q
+    → SharedOut 1 left right p q → LeavesShared left right p q
 unfolding halves
 leaves-shared left right p q here there cut =
     let half = (entries p left + entries p right) / 2 in
-    let row : contents 1 p left ++ contents 1 p right ≡ leafMarks p left ++ leafMarks p right = ap₂ (λ (x y : List ℕ). x ++ y) (leaf-contents p left) (leaf-contents p right) in
+    let row : contents 1 p left ++ contents 1 p right ≡ leafMarks p left ++ leafMarks p right =
+    ap₂ (λ (x y : List ℕ). x ++ y) (leaf-contents p left) (leaf-contents p right)
+    in
     let at-half : 1 * half ≡ middle (leafMarks p left ++ leafMarks p right) =
     omega (arith, length-append (leafMarks p left) (leafMarks p right), leaf-size p left here, leaf-size p right there)
     in

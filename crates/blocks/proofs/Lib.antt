@@ -4,6 +4,5 @@ pub mod Gaps
 pub mod Parts
 pub mod Shares
 pub mod Leaves
-pub mod Rows
 pub mod Chunks
 pub mod Branches

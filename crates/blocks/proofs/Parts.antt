@@ -16,7 +16,7 @@ use Rattle.pool.specs.Changes.{Only}
 use Rattle.pool.specs.Words.{WordAt, PutByte, PutWord, Moved}
 use Rattle.pool.proofs.Changed.{outside-then, outside-wider, only-block, only-then, only-wider, word-other}
 use Rattle.pool.proofs.Cuts.{cut-before, cut-moved, cut-two}
-use Rattle.blocks.specs.Contents.{contents, Room}
+use Rattle.blocks.specs.Contents.{contents, Room, Apart}
 use Rattle.blocks.specs.Moves.{PutTrailer, CutOff, Joined}
 use Rattle.blocks.proofs.Products.{Measured, measured}
 use Rattle.blocks.proofs.Stretches.{drop-stretch, contents-is, start-other}
@@ -36,13 +36,14 @@ trailer-put b many p q r form count =
 
 -- a block's entries behind the first so many, moved to another block
 pub part-cut : (unit b new cut many : ℕ) (p p₁ p₂ p₃ : List ℕ)
-    → b < shares p → new < shares p → (b ≡ new → ⊥) → cut ≤ entries p b → Room unit (entries p b)
+    → Apart p b new → cut ≤ entries p b → Room unit (entries p b)
     → WordAt p (blockAt b + countAt) many
     → Moved (blockAt b + unit * cut) (blockAt new) (unit * many - unit * cut) p p₁
     → PutWord (blockAt b + countAt) cut p₁ p₂
     → PutTrailer new (many - cut) p₂ p₃
     → CutOff unit b new cut p p₃
-part-cut unit b new cut many p p₁ p₂ p₃ inside there apart less room is m w t =
+part-cut unit b new cut many p p₁ p₂ p₃ two less room is m w t =
+    let apart : b ≡ new → ⊥ = two .apart in
     let a = blockAt b in
     let front = unit * cut in
     let used = unit * many in
@@ -90,7 +91,9 @@ parts-joined unit left right here there p q r inside inside' room is is' m w =
     let a = blockAt left in
     let l = unit * here in
     let n = unit * there in
-    let fits : Measured unit here (here + there) = measured unit here (entries p left + entries p right) (here + there) (omega (arith, is .is, is' .is)) (omega (arith, is .is)) room in
+    let fits : Measured unit here (here + there) =
+    measured unit here (entries p left + entries p right) (here + there) (omega (arith, is .is, is' .is)) (omega (arith, is .is)) room
+    in
     let sum : unit * (here + there) ≡ l + n = omega arith in
     record {
       only = moved-only left (blockAt right) (a + l) n (here + there) p q r (omega arith) (omega arith) m w;

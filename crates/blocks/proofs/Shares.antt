@@ -3,21 +3,20 @@
 use mathlib.Core.Path.{_≡_, refl, sym, ap, ap₂, _∙_}
 use mathlib.Core.List.{List, _++_}
 use mathlib.Core.Logic.{_⊎_, inl, inr}
-use Prim.Native.Nat.{ℕ, _+_, _-_, _*_, _/_, _≤_, _<_}
+use Prim.Native.Nat.{ℕ, _+_, _-_, _*_, _/_, _≤_}
 use native.Mathlib.Nat.{mul-sub, mul-le-mul-left}
 use native.Mathlib.Omega.{arith}
 use lib.ListN.{length, take, drop}
 use lib.Seq.{take-take, take-append-le, take-append-add, drop-append-le, drop-append-add}
 use Rattle.geometry.specs.Layout.{formAt, countAt}
 use Rattle.pool.specs.Blocks.{formOf, entries}
-use Rattle.pool.specs.Bytes.{shares, blockAt}
+use Rattle.pool.specs.Bytes.{blockAt}
 use Rattle.pool.specs.Changes.{Only}
 use Rattle.pool.specs.Words.{WordAt, PutWord, Moved}
 use Rattle.pool.proofs.Changed.{only-block, only-then, only-wider, word-other}
 use Rattle.pool.proofs.Cuts.{cut-length, cut-before, cut-behind, cut-moved, cut-two}
-use Rattle.blocks.specs.Contents.{contents, Room}
-use Rattle.blocks.specs.Moves.{Recut}
-use Rattle.blocks.proofs.Products.{room-fewer}
+use Rattle.blocks.specs.Contents.{contents, Room, Counted}
+use Rattle.blocks.specs.Moves.{Recut, SharedOut}
 use Rattle.blocks.proofs.Stretches.{drop-stretch, contents-is, start-other, stretch-other}
 
 -- what the entries of two blocks take where the left one gets more
@@ -126,8 +125,7 @@ module _ (unit left right here there many : ℕ) (p p₂ p₃ p₄ : List ℕ) (
             ∙ ap₂ (λ (n : ℕ) (z : List ℕ). drop n z) now-is (sym row);
       }
 
-module _ (unit left right here there many : ℕ) (p p₁ p₂ p₃ p₄ : List ℕ) (inside : left < shares p) (inside' : right < shares p) (apart : left ≡ right → ⊥)
-    (is : here ≡ entries p left) (is' : there ≡ entries p right) where
+module _ (unit left right here there many : ℕ) (p p₁ p₂ p₃ p₄ : List ℕ) (counted : Counted p left right here there) where
   -- entries from the right block's front, moved behind the left block's
   pub left-filled : here ≤ many → many ≤ here + there → Room unit many → Room unit there
       → Moved (blockAt right) (blockAt left + unit * here) (unit * many - unit * here) p p₁
@@ -136,6 +134,7 @@ module _ (unit left right here there many : ℕ) (p p₁ p₂ p₃ p₄ : List �
       → PutWord (blockAt right + countAt) (here + there - many) p₃ p₄
       → Recut unit left right many p p₄
   left-filled less upto room room' m m' w w' =
+      let apart : left ≡ right → ⊥ = counted .blocks .apart in
       let a = blockAt left in
       let a' = blockAt right in
       let l = unit * here in
@@ -147,7 +146,7 @@ module _ (unit left right here there many : ℕ) (p p₁ p₂ p₃ p₄ : List �
       let first : Only (λ x. x ≡ left) p p₁ = only-block (m .same) left (omega arith) (omega arith) in
       let second : Only (λ x. x ≡ right) p₁ p₂ = only-block (m' .same) right (omega arith) (omega arith) in
       let apart' : right ≡ left → ⊥ = λ (e : right ≡ left). apart (sym e) in
-      recut unit left right here there many p p₂ p₃ p₄ apart is is'
+      recut unit left right here there many p p₂ p₃ p₄ (counted .blocks .apart) (counted .leftMany) (counted .rightMany)
       (only-then (only-wider _ (λ x e. inl e) first) (only-wider _ (λ x e. inr e) second))
       (second .others left apart formAt (omega arith) ∙ m .same .high (a + formAt) (omega arith))
       (m' .same .high (a' + formAt) (omega arith) ∙ first .others right apart' formAt (omega arith))
@@ -168,6 +167,7 @@ module _ (unit left right here there many : ℕ) (p p₁ p₂ p₃ p₄ : List �
       → PutWord (blockAt right + countAt) (here + there - many) p₃ p₄
       → Recut unit left right many p p₄
   right-filled less room room' m m' w w' =
+      let apart : left ≡ right → ⊥ = counted .blocks .apart in
       let a = blockAt left in
       let a' = blockAt right in
       let l = unit * here in
@@ -177,7 +177,7 @@ module _ (unit left right here there many : ℕ) (p p₁ p₂ p₃ p₄ : List �
       let rest : l - n + r ≡ unit * (here + there - many) = omega (arith, mul-sub unit (here + there) many) in
       let first : Only (λ x. x ≡ right) p p₁ = only-block (m .same) right (omega arith) (omega arith) in
       let second : Only (λ x. x ≡ right) p₁ p₂ = only-block (m' .same) right (omega arith) (omega arith) in
-      recut unit left right here there many p p₂ p₃ p₄ apart is is'
+      recut unit left right here there many p p₂ p₃ p₄ (counted .blocks .apart) (counted .leftMany) (counted .rightMany)
       (only-wider _ (λ x e. inr e) (only-then first second))
       (second .others left apart formAt (omega arith) ∙ first .others left apart formAt (omega arith))
       (m' .same .high (a' + formAt) (omega arith) ∙ m .same .high (a' + formAt) (omega arith))
@@ -194,20 +194,6 @@ module _ (unit left right here there many : ℕ) (p p₁ p₂ p₃ p₄ : List �
 -- the counts that the code read are the blocks' own
 pub shared-out : (unit left right here there : ℕ) (p q : List ℕ)
     → WordAt p (blockAt left + countAt) here → WordAt p (blockAt right + countAt) there
-    → Recut unit left right ((here + there) / 2) p q → Recut unit left right ((entries p left + entries p right) / 2) p q
+    → Recut unit left right ((here + there) / 2) p q → SharedOut unit left right p q
 shared-out unit left right here there p q is is' cut =
     rw (is .is, is' .is) at cut
-
--- half of the entries are no more than the larger block has
-module _ (unit here there m n : ℕ) (is : here ≡ m) (is' : there ≡ n) (room : Room unit m) (room' : Room unit n) where
-  pub half-left : here ≤ (here + there) / 2 → Room unit ((here + there) / 2)
-  half-left more = room-fewer unit ((here + there) / 2) n (omega arith) room'
-
-  pub half-right : (here + there) / 2 < here → Room unit (here + there - (here + there) / 2)
-  half-right less = room-fewer unit (here + there - (here + there) / 2) m (omega arith) room
-
-  pub here-fits : Room unit here
-  here-fits = room-fewer unit here m (omega arith) room
-
-  pub there-fits : Room unit there
-  there-fits = room-fewer unit there n (omega arith) room'

@@ -1,5 +1,6 @@
 -- The entries of a block as bytes: all of them in a row, and those of a branch one by one.
 -- Assumes nothing.
+use mathlib.Core.Path.{_≡_}
 use mathlib.Core.List.{List}
 use Prim.Native.Nat.{ℕ, _+_, _*_, _≤_, _<_}
 use lib.ListN.{take, drop}
@@ -33,6 +34,18 @@ countIn entry c = word entry (entryCountsAt + wordSize * c)
 pub record Room (unit many : ℕ) : Type 0 where
   pub few : many ≤ formAt
   pub fits : unit * many ≤ formAt
+
+-- two blocks of the pool
+pub record Apart (p : List ℕ) (left right : ℕ) : Type 0 where
+  pub leftInside : left < shares p
+  pub rightInside : right < shares p
+  pub apart : left ≡ right → ⊥
+
+-- with so many entries
+pub record Counted (p : List ℕ) (left right here there : ℕ) : Type 0 where
+  pub blocks : Apart p left right
+  pub leftMany : here ≡ entries p left
+  pub rightMany : there ≡ entries p right
 
 -- a block of the pool with no more entries than a leaf has
 pub record LeafAt (p : List ℕ) (b : ℕ) : Type 0 where

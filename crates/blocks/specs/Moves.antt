@@ -3,7 +3,7 @@
 use mathlib.Core.Path.{_≡_}
 use mathlib.Core.List.{List, _++_}
 use mathlib.Core.Logic.{_⊎_}
-use Prim.Native.Nat.{ℕ, _+_, _-_, _*_}
+use Prim.Native.Nat.{ℕ, _+_, _-_, _*_, _/_}
 use lib.ListN.{take, drop}
 use Rattle.geometry.specs.Layout.{formAt, formMarks}
 use Rattle.geometry.specs.Limits.{blockSize}
@@ -61,3 +61,7 @@ pub record Recut (unit left right many : ℕ) (before after : List ℕ) : Type 0
   pub rightForm : formOf after right ≡ formOf before right
   pub rightMany : entries after right ≡ entries before left + entries before right - many
   pub rightBytes : contents unit after right ≡ drop (unit * many) (contents unit before left ++ contents unit before right)
+
+-- half of them
+abbrev pub SharedOut : ℕ → ℕ → ℕ → List ℕ → List ℕ → Type 0
+SharedOut unit left right before after = Recut unit left right ((entries before left + entries before right) / 2) before after

@@ -39,7 +39,8 @@ pub fn cut_branch(pool: &mut [u8], b: usize, new: usize, cut: usize)
 
 // Puts the right branch's entries behind the left branch's.
 pub fn join_branches(pool: &mut [u8], left: usize, right: usize)
-    requires { ⌜ BranchAt (now pool) left × BranchAt (now pool) right × (entries (now pool) left + entries (now pool) right ≤ mostBranch) ⌝ }
+    requires { ⌜ BranchAt (now pool) left × BranchAt (now pool) right
+        × (entries (now pool) left + entries (now pool) right ≤ mostBranch) ⌝ }
     ensures { λ _. ⌜ BranchesJoined left right (now (pool .entry)) (now (pool .exit)) ⌝ }
 {
     join(pool, left, right, Record::ENTRY_SIZE);

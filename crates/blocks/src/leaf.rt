@@ -60,7 +60,8 @@ pub fn find_mark(pool: &[u8], b: usize, c: u8, j: usize) -> usize
 
 // Puts c in at place i.
 pub fn insert_mark(pool: &mut [u8], b: usize, i: usize, c: u8)
-    requires { ⌜ LeafAt (now pool) b × (1 ≤ i) × (i ≤ length (leafMarks (now pool) b) + 1) × (length (leafMarks (now pool) b) < mostLeaf) ⌝ }
+    requires { ⌜ LeafAt (now pool) b × (1 ≤ i) × (i ≤ length (leafMarks (now pool) b) + 1)
+        × (length (leafMarks (now pool) b) < mostLeaf) ⌝ }
     ensures { λ _. ⌜ MarkInserted b i c (now (pool .entry)) (now (pool .exit)) ⌝ }
 {
     open_gap(pool, b, 1, i - 1);
@@ -91,7 +92,8 @@ pub fn cut_leaf(pool: &mut [u8], b: usize, new: usize, cut: usize)
 
 // Puts the right leaf's marks behind the left leaf's.
 pub fn join_leaves(pool: &mut [u8], left: usize, right: usize)
-    requires { ⌜ LeafAt (now pool) left × LeafAt (now pool) right × (length (leafMarks (now pool) left) + length (leafMarks (now pool) right) ≤ mostLeaf) ⌝ }
+    requires { ⌜ LeafAt (now pool) left × LeafAt (now pool) right
+        × (length (leafMarks (now pool) left) + length (leafMarks (now pool) right) ≤ mostLeaf) ⌝ }
     ensures { λ _. ⌜ LeavesJoined left right (now (pool .entry)) (now (pool .exit)) ⌝ }
 {
     join(pool, left, right, 1);

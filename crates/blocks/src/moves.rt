@@ -1,11 +1,10 @@
 // Entries of a block moved, `unit` bytes each: said once for leaves and branches.
-ghost use mathlib.Core.Path.{_≡_};
-ghost use Prim.Native.Nat.{_+_, _-_, _*_, _/_, _≤_, _<_};
+ghost use Prim.Native.Nat.{_+_, _-_, _≤_, _<_};
 ghost use Rattle.pool.specs.Blocks.{entries};
 ghost use Rattle.pool.specs.Bytes.{shares};
 ghost use Rattle.pool.specs.Words.{wordLimit};
-ghost use Rattle.blocks.specs.Contents.{Room};
-ghost use Rattle.blocks.specs.Moves.{PutTrailer, Opened, Closed, CutOff, Joined, Recut};
+ghost use Rattle.blocks.specs.Contents.{Room, Apart, Counted};
+ghost use Rattle.blocks.specs.Moves.{PutTrailer, Opened, Closed, CutOff, Joined, Recut, SharedOut};
 use geometry::Record;
 use pool::move_bytes;
 use pool::put_byte;
@@ -38,7 +37,7 @@ pub fn close_gap(pool: &mut [u8], b: usize, unit: usize, k: usize)
 
 // Moves the entries from number `cut` on to the block `new`.
 pub fn cut_off(pool: &mut [u8], b: usize, new: usize, unit: usize, cut: usize)
-    requires { ⌜ (b < shares (now pool)) × (new < shares (now pool)) × (b ≡ new → ⊥) × (cut ≤ entries (now pool) b) × Room unit (entries (now pool) b) ⌝ }
+    requires { ⌜ Apart (now pool) b new × (cut ≤ entries (now pool) b) × Room unit (entries (now pool) b) ⌝ }
     ensures { λ _. ⌜ CutOff unit b new cut (now (pool .entry)) (now (pool .exit)) ⌝ }
 {
     let at = Record::DIRECTORY_SIZE + Record::BLOCK_SIZE * b;
@@ -61,7 +60,8 @@ fn put_trailer(pool: &mut [u8], b: usize, many: usize)
 
 // Puts the right block's entries behind the left block's.
 pub fn join(pool: &mut [u8], left: usize, right: usize, unit: usize)
-    requires { ⌜ (left < shares (now pool)) × (right < shares (now pool)) × Room unit (entries (now pool) left + entries (now pool) right) ⌝ }
+    requires { ⌜ (left < shares (now pool)) × (right < shares (now pool))
+        × Room unit (entries (now pool) left + entries (now pool) right) ⌝ }
     ensures { λ _. ⌜ Joined unit left right (now (pool .entry)) (now (pool .exit)) ⌝ }
 {
     let at = Record::DIRECTORY_SIZE + Record::BLOCK_SIZE * left;
@@ -74,8 +74,8 @@ pub fn join(pool: &mut [u8], left: usize, right: usize, unit: usize)
 
 // Shares two blocks' entries out: the left one gets half of them.
 pub fn share_out(pool: &mut [u8], left: usize, right: usize, unit: usize)
-    requires { ⌜ (left < shares (now pool)) × (right < shares (now pool)) × (left ≡ right → ⊥) × Room unit (entries (now pool) left) × Room unit (entries (now pool) right) ⌝ }
-    ensures { λ _. ⌜ Recut unit left right ((entries (now (pool .entry)) left + entries (now (pool .entry)) right) / 2) (now (pool .entry)) (now (pool .exit)) ⌝ }
+    requires { ⌜ Apart (now pool) left right × Room unit (entries (now pool) left) × Room unit (entries (now pool) right) ⌝ }
+    ensures { λ _. ⌜ SharedOut unit left right (now (pool .entry)) (now (pool .exit)) ⌝ }
 {
     let at = Record::DIRECTORY_SIZE + Record::BLOCK_SIZE * left;
     let from = Record::DIRECTORY_SIZE + Record::BLOCK_SIZE * right;
@@ -99,7 +99,7 @@ fn fill_left(
     there: usize,
     many: usize,
 )
-    requires { ⌜ (left < shares (now pool)) × (right < shares (now pool)) × (left ≡ right → ⊥) × (here ≡ entries (now pool) left) × (there ≡ entries (now pool) right) × (here ≤ many) × (many ≤ here + there) × Room unit many × Room unit there ⌝ }
+    requires { ⌜ Counted (now pool) left right here there × (here ≤ many) × (many ≤ here + there) × Room unit many × Room unit there ⌝ }
     ensures { λ _. ⌜ Recut unit left right many (now (pool .entry)) (now (pool .exit)) ⌝ }
 {
     let at = Record::DIRECTORY_SIZE + Record::BLOCK_SIZE * left;
@@ -121,7 +121,7 @@ fn fill_right(
     there: usize,
     many: usize,
 )
-    requires { ⌜ (left < shares (now pool)) × (right < shares (now pool)) × (left ≡ right → ⊥) × (here ≡ entries (now pool) left) × (there ≡ entries (now pool) right) × (many ≤ here) × Room unit here × Room unit (here + there - many) ⌝ }
+    requires { ⌜ Counted (now pool) left right here there × (many ≤ here) × Room unit here × Room unit (here + there - many) ⌝ }
     ensures { λ _. ⌜ Recut unit left right many (now (pool .entry)) (now (pool .exit)) ⌝ }
 {
     let at = Record::DIRECTORY_SIZE + Record::BLOCK_SIZE * left;

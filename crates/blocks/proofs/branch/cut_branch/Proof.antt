@@ -1,7 +1,7 @@
 -- `blocks::branch::cut_branch` meets its contract, by the law of entries cut off.
 -- Assumes nothing.
-use Rattle.blocks.proofs.Branches.{branch-cut}
 use borrow.Author.Needs.{needs}
+use Rattle.blocks.proofs.Branches.{branch-cut}
 use Rattle.blocks.proofs.branch.cut_branch.Statement.{statement}
 use Rattle.blocks.proofs.branch.cut_branch.Tie as tie
 

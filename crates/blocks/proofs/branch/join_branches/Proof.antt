@@ -1,7 +1,7 @@
 -- `blocks::branch::join_branches` meets its contract, by the law of entries joined.
 -- Assumes nothing.
-use Rattle.blocks.proofs.Branches.{branches-joined}
 use borrow.Author.Needs.{needs}
+use Rattle.blocks.proofs.Branches.{branches-joined}
 use Rattle.blocks.proofs.branch.join_branches.Statement.{statement}
 use Rattle.blocks.proofs.branch.join_branches.Tie as tie
 

@@ -1,7 +1,7 @@
 -- `blocks::branch::open_entry` meets its contract, by the law of a gap.
 -- Assumes nothing.
-use Rattle.blocks.proofs.Branches.{entry-opened}
 use borrow.Author.Needs.{needs}
+use Rattle.blocks.proofs.Branches.{entry-opened}
 use Rattle.blocks.proofs.branch.open_entry.Statement.{statement}
 use Rattle.blocks.proofs.branch.open_entry.Tie as tie
 

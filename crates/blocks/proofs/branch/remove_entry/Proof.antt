@@ -1,7 +1,7 @@
 -- `blocks::branch::remove_entry` meets its contract, by the law of a gap closed.
 -- Assumes nothing.
-use Rattle.blocks.proofs.Branches.{entry-removed}
 use borrow.Author.Needs.{needs}
+use Rattle.blocks.proofs.Branches.{entry-removed}
 use Rattle.blocks.proofs.branch.remove_entry.Statement.{statement}
 use Rattle.blocks.proofs.branch.remove_entry.Tie as tie
 

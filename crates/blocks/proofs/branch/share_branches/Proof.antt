@@ -1,7 +1,7 @@
 -- `blocks::branch::share_branches` meets its contract, by the law of entries cut anew.
 -- Assumes nothing.
-use Rattle.blocks.proofs.Branches.{branches-shared}
 use borrow.Author.Needs.{needs}
+use Rattle.blocks.proofs.Branches.{branches-shared}
 use Rattle.blocks.proofs.branch.share_branches.Statement.{statement}
 use Rattle.blocks.proofs.branch.share_branches.Tie as tie
 

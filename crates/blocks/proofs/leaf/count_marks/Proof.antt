@@ -1,8 +1,8 @@
 -- `blocks::leaf::count_marks` meets its contract: a stretch of the leaf is one of the pool.
 -- Assumes nothing.
 use native.Mathlib.Omega.{arith}
-use Rattle.blocks.proofs.Leaves.{leaf-size, stretch-count}
 use borrow.Author.Needs.{needs}
+use Rattle.blocks.proofs.Leaves.{leaf-size, stretch-count}
 use Rattle.blocks.proofs.leaf.count_marks.Statement.{statement}
 use Rattle.blocks.proofs.leaf.count_marks.Tie as tie
 

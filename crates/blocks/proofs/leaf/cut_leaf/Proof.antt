@@ -1,13 +1,13 @@
 -- `blocks::leaf::cut_leaf` meets its contract, by the law of entries cut off.
 -- Assumes nothing.
 use native.Mathlib.Omega.{arith}
-use Rattle.blocks.proofs.Leaves.{leaf-size, leaf-cut}
 use borrow.Author.Needs.{needs}
+use Rattle.blocks.proofs.Leaves.{leaf-size, leaf-cut}
 use Rattle.blocks.proofs.leaf.cut_leaf.Statement.{statement}
 use Rattle.blocks.proofs.leaf.cut_leaf.Tie as tie
 
 cut-off-requires : tie.Need-cut-off-requires
-cut-off-requires c κs = (search needs, search needs, search needs, omega (arith, leaf-size _ _ (c .before .before .pre .0)), search needs)
+cut-off-requires c κs = (search needs, omega (arith, leaf-size _ _ (c .before .before .pre .0)), search needs)
 
 same-length : tie.Need-same-length
 same-length c = search needs

@@ -1,8 +1,8 @@
 -- `blocks::leaf::delete_mark` meets its contract: the mark is read, and its byte closed.
 -- Assumes nothing.
 use native.Mathlib.Omega.{arith}
-use Rattle.blocks.proofs.Leaves.{leaf-size, mark-deleted}
 use borrow.Author.Needs.{needs}
+use Rattle.blocks.proofs.Leaves.{leaf-size, mark-deleted}
 use Rattle.blocks.proofs.leaf.delete_mark.Statement.{statement}
 use Rattle.blocks.proofs.leaf.delete_mark.Tie as tie
 

@@ -1,7 +1,7 @@
 -- `blocks::leaf::find_mark` meets its contract: the part of the pool that is searched is the leaf.
 -- Assumes nothing.
-use Rattle.blocks.proofs.Leaves.{found-is}
 use borrow.Author.Needs.{needs}
+use Rattle.blocks.proofs.Leaves.{found-is}
 use Rattle.blocks.proofs.leaf.find_mark.Statement.{statement}
 use Rattle.blocks.proofs.leaf.find_mark.Tie as tie
 

@@ -1,8 +1,8 @@
 -- `blocks::leaf::insert_mark` meets its contract: a gap of one byte, and the mark in it.
 -- Assumes nothing.
 use native.Mathlib.Omega.{arith}
-use Rattle.blocks.proofs.Leaves.{leaf-size, mark-inserted}
 use borrow.Author.Needs.{needs}
+use Rattle.blocks.proofs.Leaves.{leaf-size, mark-inserted}
 use Rattle.blocks.proofs.leaf.insert_mark.Statement.{statement}
 use Rattle.blocks.proofs.leaf.insert_mark.Tie as tie
 

@@ -1,8 +1,8 @@
 -- `blocks::leaf::join_leaves` meets its contract, by the law of entries joined.
 -- Assumes nothing.
 use native.Mathlib.Omega.{arith}
-use Rattle.blocks.proofs.Leaves.{leaf-size, leaves-joined}
 use borrow.Author.Needs.{needs}
+use Rattle.blocks.proofs.Leaves.{leaf-size, leaves-joined}
 use Rattle.blocks.proofs.leaf.join_leaves.Statement.{statement}
 use Rattle.blocks.proofs.leaf.join_leaves.Tie as tie
 

@@ -1,8 +1,8 @@
 -- `blocks::leaf::mark_at` meets its contract: place i is byte i - 1 of the block.
 -- Assumes nothing.
 use native.Mathlib.Omega.{arith}
-use Rattle.blocks.proofs.Leaves.{leaf-size, mark-is}
 use borrow.Author.Needs.{needs}
+use Rattle.blocks.proofs.Leaves.{leaf-size, mark-is}
 use Rattle.blocks.proofs.leaf.mark_at.Statement.{statement}
 use Rattle.blocks.proofs.leaf.mark_at.Tie as tie
 

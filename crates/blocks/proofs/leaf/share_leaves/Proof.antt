@@ -1,7 +1,7 @@
 -- `blocks::leaf::share_leaves` meets its contract, by the law of entries cut anew.
 -- Assumes nothing.
-use Rattle.blocks.proofs.Leaves.{leaves-shared}
 use borrow.Author.Needs.{needs}
+use Rattle.blocks.proofs.Leaves.{leaves-shared}
 use Rattle.blocks.proofs.leaf.share_leaves.Statement.{statement}
 use Rattle.blocks.proofs.leaf.share_leaves.Tie as tie
 

@@ -1,7 +1,7 @@
 -- `blocks::leaf::size` meets its contract: a leaf has as many marks as its block says.
 -- Assumes nothing.
-use Rattle.blocks.proofs.Leaves.{size-is}
 use borrow.Author.Needs.{needs}
+use Rattle.blocks.proofs.Leaves.{size-is}
 use Rattle.blocks.proofs.leaf.size.Statement.{statement}
 use Rattle.blocks.proofs.leaf.size.Tie as tie
 

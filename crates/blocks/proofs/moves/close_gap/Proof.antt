@@ -2,9 +2,9 @@
 -- Assumes nothing.
 use Prim.Native.Nat.{_+_}
 use native.Mathlib.Omega.{arith}
+use borrow.Author.Needs.{needs}
 use Rattle.blocks.proofs.Products.{Measured, measured}
 use Rattle.blocks.proofs.Gaps.{gap-closed}
-use borrow.Author.Needs.{needs}
 use Rattle.blocks.proofs.moves.close_gap.Statement.{statement}
 use Rattle.blocks.proofs.moves.close_gap.Tie as tie
 

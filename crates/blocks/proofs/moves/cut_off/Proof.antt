@@ -1,15 +1,15 @@
 -- `blocks::moves::cut_off` meets its contract: one move, the count that is left, and the new block's trailer.
 -- Assumes nothing.
 use native.Mathlib.Omega.{arith}
+use borrow.Author.Needs.{needs}
 use Rattle.blocks.proofs.Products.{Measured, measured}
 use Rattle.blocks.proofs.Parts.{part-cut}
-use borrow.Author.Needs.{needs}
 use Rattle.blocks.proofs.moves.cut_off.Statement.{statement}
 use Rattle.blocks.proofs.moves.cut_off.Tie as tie
 
 -- what the entries take, and those before the cut
 bounds : (c : tie.After-word) → Measured (c .before .before .before .args .unit) (c .before .before .before .args .cut) (c .word .result)
-bounds c = measured _ _ _ _ (c .word .ensures .is) (omega arith) (c .before .before .before .pre .4)
+bounds c = measured _ _ _ _ (c .word .ensures .is) (omega arith) (c .before .before .before .pre .2)
 
 mul-at : tie.Need-mul-at
 mul-at c = search needs

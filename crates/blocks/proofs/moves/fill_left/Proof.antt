@@ -1,14 +1,14 @@
 -- `blocks::moves::fill_left` meets its contract: two moves and both counts cut the entries anew.
 -- Assumes nothing.
 use native.Mathlib.Omega.{arith}
-use Rattle.blocks.proofs.Shares.{LeftFits, left-fits, left-filled}
 use borrow.Author.Needs.{needs}
+use Rattle.blocks.proofs.Shares.{LeftFits, left-fits, left-filled}
 use Rattle.blocks.proofs.moves.fill_left.Statement.{statement}
 use Rattle.blocks.proofs.moves.fill_left.Tie as tie
 
 -- what the entries take
 bounds : (c : tie.After-slice-known) → LeftFits (c .before .args .unit) (c .before .args .here) (c .before .args .there) (c .before .args .many)
-bounds c = left-fits _ _ _ _ (omega arith) (omega arith) (c .before .pre .7) (c .before .pre .8)
+bounds c = left-fits _ _ _ _ (omega arith) (omega arith) (c .before .pre .3) (c .before .pre .4)
 
 mul-at : tie.Need-mul-at
 mul-at c = search needs

@@ -1,14 +1,14 @@
 -- `blocks::moves::fill_right` meets its contract: two moves and both counts cut the entries anew.
 -- Assumes nothing.
 use native.Mathlib.Omega.{arith}
-use Rattle.blocks.proofs.Shares.{RightFits, right-fits, right-filled}
 use borrow.Author.Needs.{needs}
+use Rattle.blocks.proofs.Shares.{RightFits, right-fits, right-filled}
 use Rattle.blocks.proofs.moves.fill_right.Statement.{statement}
 use Rattle.blocks.proofs.moves.fill_right.Tie as tie
 
 -- what the entries take
 bounds : (c : tie.After-slice-known) → RightFits (c .before .args .unit) (c .before .args .here) (c .before .args .there) (c .before .args .many)
-bounds c = right-fits _ _ _ _ (omega arith) (c .before .pre .6) (c .before .pre .7)
+bounds c = right-fits _ _ _ _ (omega arith) (c .before .pre .2) (c .before .pre .3)
 
 mul-at : tie.Need-mul-at
 mul-at c = search needs

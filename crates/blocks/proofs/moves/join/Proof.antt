@@ -2,16 +2,18 @@
 -- Assumes nothing.
 use Prim.Native.Nat.{_+_}
 use native.Mathlib.Omega.{arith}
+use borrow.Author.Needs.{needs}
 use Rattle.blocks.proofs.Products.{Measured, measured}
 use Rattle.blocks.proofs.Parts.{parts-joined}
-use borrow.Author.Needs.{needs}
 use Rattle.blocks.proofs.moves.join.Statement.{statement}
 use Rattle.blocks.proofs.moves.join.Tie as tie
 
 -- what the entries of both take
-bounds : (c : tie.After-word2) → Measured (c .before .before .before .before .before .args .unit) (c .before .before .word .result) (c .before .before .word .result + c .word2 .result)
+bounds : (c : tie.After-word2)
+    → Measured (c .before .before .before .before .before .args .unit) (c .before .before .word .result) (c .before .before .word .result + c .word2 .result)
 bounds c =
-    measured _ _ _ _ (omega (arith, c .word2 .ensures .is, c .before .before .word .ensures .is)) (omega (arith, c .before .before .word .ensures .is)) (c .before .before .before .before .before .pre .2)
+    let here = c .before .before .word .ensures .is in
+    measured _ _ _ _ (omega (arith, c .word2 .ensures .is, here)) (omega (arith, here)) (c .before .before .before .before .before .pre .2)
 
 mul-at : tie.Need-mul-at
 mul-at c = search needs

@@ -1,7 +1,7 @@
 -- `blocks::moves::put_trailer` meets its contract: its two stores make the trailer.
 -- Assumes nothing.
-use Rattle.blocks.proofs.Parts.{trailer-put}
 use borrow.Author.Needs.{needs}
+use Rattle.blocks.proofs.Parts.{trailer-put}
 use Rattle.blocks.proofs.moves.put_trailer.Statement.{statement}
 use Rattle.blocks.proofs.moves.put_trailer.Tie as tie
 

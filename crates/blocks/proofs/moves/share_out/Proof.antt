@@ -1,7 +1,9 @@
 -- `blocks::moves::share_out` meets its contract: whichever block gets more, the entries are cut at half.
 -- Assumes nothing.
-use Rattle.blocks.proofs.Shares.{half-left, half-right, here-fits, there-fits, shared-out}
+use native.Mathlib.Omega.{arith}
 use borrow.Author.Needs.{needs}
+use Rattle.blocks.proofs.Products.{room-fewer}
+use Rattle.blocks.proofs.Shares.{shared-out}
 use Rattle.blocks.proofs.moves.share_out.Statement.{statement}
 use Rattle.blocks.proofs.moves.share_out.Tie as tie
 
@@ -33,10 +35,14 @@ add-half : tie.Need-add-half
 add-half c = search needs
 
 fill-left-requires : tie.Need-fill-left-requires
-fill-left-requires c κs = (search needs, search needs, search needs, search needs, search needs, search needs, search needs, search half-left, search there-fits)
+fill-left-requires c κs =
+    let pre = c .before .before .before .before .before .before .before .pre in
+    (search needs, search needs, search needs, room-fewer _ _ _ (omega arith) (pre .2), room-fewer _ _ _ (omega arith) (pre .2))
 
 fill-right-requires : tie.Need-fill-right-requires
-fill-right-requires c κs = (search needs, search needs, search needs, search needs, search needs, search needs, search here-fits, search half-right)
+fill-right-requires c κs =
+    let pre = c .before .before .before .before .before .before .before .pre in
+    (search needs, search needs, room-fewer _ _ _ (omega arith) (pre .1), room-fewer _ _ _ (omega arith) (pre .1))
 
 same-length : tie.Need-same-length
 same-length c = search needs

@@ -1,0 +1,147 @@
+-- The descent as the code makes it, at a level that it tested: what the calls ask, and what their answers make.
+-- Assumes nothing.
+use mathlib.Core.Path.{_≡_, refl, sym, ap, ap₂, _∙_}
+use mathlib.Core.List.{List}
+use Prim.Native.Nat.{ℕ, zero, suc, _+_, _-_, _*_, _≤_, _<_, min}
+use native.Mathlib.Nat.{sub-zero}
+use native.Mathlib.Omega.{arith}
+use lib.ListN.{length, take, drop, length-append}
+use Rattle.blocks.specs.Contents.{LeafAt}
+use Rattle.entries.specs.Summaries.{wordsAt}
+use Rattle.geometry.specs.Layout.{entryMarksAt, entryCountsAt, wordSize, leastBranch}
+use Rattle.geometry.specs.Limits.{mostAlphabet}
+use Rattle.pool.specs.Blocks.{entries, leafMarks, entryAt, link}
+use Rattle.pool.specs.Bytes.{byte}
+use Rattle.pool.specs.Sound.{SoundBlock}
+use Rattle.pool.specs.Trees.{shapeAt}
+use Rattle.pool.specs.Words.{byteLimit, wordLimit}
+use Rattle.pool.proofs.Children.{told-all}
+use Rattle.pool.proofs.Words.{word-small}
+use Rattle.pool.proofs.Ways.{length-pathAt}
+use Rattle.sequence.specs.Alphabet.{sumBelow}
+use Rattle.sequence.specs.Definition1.{count, access, rank, select}
+use Rattle.sequence.proofs.Measures.{count-additive}
+use Rattle.sequence.proofs.Ranks.{rank-le-place}
+use Rattle.sequence.proofs.Selects.{select-le-length}
+use Rattle.shape.specs.Fill.{Within}
+use Rattle.shape.specs.Nested.{flat, marksIn}
+use Rattle.shape.specs.Paths.{path}
+use Rattle.query.specs.Answers.{FoundIn}
+use Rattle.query.specs.Good.{Good}
+use Rattle.query.specs.Seats.{Seated}
+use Rattle.query.specs.declared.Found.{Found}
+use Rattle.query.specs.declared.seat.Seat.{Seat}
+use Rattle.query.proofs.Levels.{at-leaf, at-branch}
+use Rattle.query.proofs.Steps.{seated-range, told-marks, told-count, path-step, access-step, rank-step, select-step}
+
+-- a leaf
+module _ (p : List ℕ) (level b : ℕ) (leaf : level ≡ 0) where
+  pub leaf-at : Good p level b → LeafAt p b
+  leaf-at = at-leaf (λ l. Good p l b → LeafAt p b) level leaf (λ good. record { inside = good .inside; fits = good .fits })
+
+  pub leaf-place : (i : ℕ) → i ≤ marksIn level (shapeAt p level b) → i ≤ length (leafMarks p b)
+  leaf-place i = at-leaf (λ l. i ≤ marksIn l (shapeAt p l b) → i ≤ length (leafMarks p b)) level leaf (λ place. place)
+
+  pub leaf-found : (i mark : ℕ) → mark ≡ access (leafMarks p b) i → FoundIn p level b i (record { mark = mark; blocks = 1 })
+  unfolding path
+  leaf-found i mark is = at-leaf (λ l. FoundIn p l b i (record { mark = mark; blocks = 1 })) level leaf (record { mark = is; blocks = refl })
+
+  -- places 1 to i are the leaf's first i marks
+  pub leaf-ranked : (c i r : ℕ) → r ≡ count c (take (i - 0) (drop 0 (leafMarks p b))) → r ≡ rank c (flat level (shapeAt p level b)) i
+  unfolding rank
+  leaf-ranked c i r is =
+      at-leaf (λ l. r ≡ rank c (flat l (shapeAt p l b)) i) level leaf (is ∙ ap (λ (n : ℕ). count c (take n (leafMarks p b))) (sub-zero i))
+
+  pub leaf-selected : (c j r : ℕ) → r ≡ select c (leafMarks p b) j → r ≡ select c (flat level (shapeAt p level b)) j
+  leaf-selected c j r is = at-leaf (λ l. r ≡ select c (flat l (shapeAt p l b)) j) level leaf is
+
+-- so many blocks fit a byte's worth of levels
+pub found-few : (p : List ℕ) (h b i : ℕ) (r : Found) → FoundIn p h b i r → r .blocks ≡ suc h
+found-few p h b i r found = found .blocks ∙ length-pathAt p h i b
+
+-- a rank is no more than its place, and a place no more than the marks
+pub ranked-most : (c : ℕ) (xs : List ℕ) (i : ℕ) {r : ℕ} → r ≡ rank c xs i → r ≤ i
+ranked-most c xs i is = omega (arith, rank-le-place c xs i)
+
+pub selected-most : (c : ℕ) (xs : List ℕ) (j : ℕ) {r : ℕ} → r ≡ select c xs j → r ≤ length xs
+selected-most c xs j is = omega (arith, select-le-length c xs j)
+
+-- a branch, and the child that was chosen
+module _ (p : List ℕ) (level b : ℕ) (branch : level ≡ 0 → ⊥) where
+  pub branch-at : Good p level b → SoundBlock p leastBranch 1 b
+  branch-at =
+      at-branch (λ l d. Good p l b → SoundBlock p leastBranch 1 b) level branch
+      (λ h good. record { inside = good .0 .inside; form = good .0 .form; enough = good .0 .enough; fits = good .0 .fits })
+
+  module _ (r : Seat) (child : ℕ) (linked : child ≡ link p b (r .k)) where
+    pub child-good : (m : ℕ → ℕ) (i : ℕ) → Seated m (entries p b) i r → Good p level b → Good p (level - 1) child
+    child-good m i seated = at-branch (λ l d. Good p l b → Good p d child) level branch (λ h good. rw linked (good .1 (r .k) (seated .inside) .0))
+
+    -- what is left of a place, or of a number of c
+    pub place-left : (i : ℕ) → Seated (wordsAt p b entryMarksAt) (entries p b) i r → Good p level b → i ≤ marksIn level (shapeAt p level b)
+        → Within (min i 1) (marksIn (level - 1) (shapeAt p (level - 1) child)) (i - r .before)
+    place-left i seated =
+        at-branch (λ l d. Good p l b → i ≤ marksIn l (shapeAt p l b) → Within (min i 1) (marksIn d (shapeAt p d child)) (i - r .before)) level branch
+        (λ h good place. rw linked (seated-range p h b length length-append (wordsAt p b entryMarksAt) (told-marks p h b good) i r seated place))
+
+    pub number-left : (c j : ℕ) → c < mostAlphabet → Seated (wordsAt p b (entryCountsAt + wordSize * c)) (entries p b) j r → Good p level b
+        → j ≤ count c (flat level (shapeAt p level b))
+        → Within (min j 1) (count c (flat (level - 1) (shapeAt p (level - 1) child))) (j - r .before)
+    number-left c j low seated =
+        at-branch (λ l d. Good p l b → j ≤ count c (flat l (shapeAt p l b)) → Within (min j 1) (count c (flat d (shapeAt p d child))) (j - r .before)) level branch
+        (λ h good within. rw linked (seated-range p h b (count c) (count-additive c) (wordsAt p b (entryCountsAt + wordSize * c)) (told-count p h b good c low) j r seated within))
+
+    -- the answers
+    pub found-below : (i : ℕ) (found : Found) → Seated (wordsAt p b entryMarksAt) (entries p b) i r → 1 ≤ i → Good p level b → i ≤ marksIn level (shapeAt p level b)
+        → FoundIn p (level - 1) child (i - r .before) found
+        → FoundIn p level b i (record { mark = found .mark; blocks = found .blocks + 1 })
+    found-below i found seated one =
+        at-branch
+        (λ l d. Good p l b → i ≤ marksIn l (shapeAt p l b) → FoundIn p d child (i - r .before) found
+        → FoundIn p l b i (record { mark = found .mark; blocks = found .blocks + 1 })) level branch
+        (λ h good place below.
+        let there : FoundIn p h (link p b (r .k)) (i - r .before) found = rw linked at below in
+        record {
+          mark = there .mark ∙ sym (access-step p h b good i r seated place one);
+          blocks = omega (arith, there .blocks, ap length (path-step p h b good i r seated));
+        })
+
+    pub ranked-below : (c i passed below : ℕ) → c < mostAlphabet → Seated (wordsAt p b entryMarksAt) (entries p b) i r
+        → passed ≡ sumBelow (r .k) (wordsAt p b (entryCountsAt + wordSize * c))
+        → Good p level b → i ≤ marksIn level (shapeAt p level b)
+        → below ≡ rank c (flat (level - 1) (shapeAt p (level - 1) child)) (i - r .before)
+        → passed + below ≡ rank c (flat level (shapeAt p level b)) i
+    ranked-below c i passed below low seated before =
+        at-branch
+        (λ l d. Good p l b → i ≤ marksIn l (shapeAt p l b) → below ≡ rank c (flat d (shapeAt p d child)) (i - r .before)
+        → passed + below ≡ rank c (flat l (shapeAt p l b)) i) level branch
+        (λ h good place is. ap₂ (λ (x y : ℕ). x + y) before (rw linked at is) ∙ sym (rank-step p h b good i r seated place c low))
+
+    pub selected-below : (c j passed below : ℕ) → c < mostAlphabet → Seated (wordsAt p b (entryCountsAt + wordSize * c)) (entries p b) j r
+        → passed ≡ sumBelow (r .k) (wordsAt p b entryMarksAt)
+        → 1 ≤ j → Good p level b → j ≤ count c (flat level (shapeAt p level b))
+        → below ≡ select c (flat (level - 1) (shapeAt p (level - 1) child)) (j - r .before)
+        → passed + below ≡ select c (flat level (shapeAt p level b)) j
+    selected-below c j passed below low seated before one =
+        at-branch
+        (λ l d. Good p l b → j ≤ count c (flat l (shapeAt p l b)) → below ≡ select c (flat d (shapeAt p d child)) (j - r .before)
+        → passed + below ≡ select c (flat l (shapeAt p l b)) j) level branch
+        (λ h good within is. ap₂ (λ (x y : ℕ). x + y) before (rw linked at is) ∙ sym (select-step p h b good c low j r seated one within))
+
+  -- a branch's marks are few, since its entries tell them by words of bytes
+  words-few : (m : ℕ → ℕ) (n : ℕ) → ((k : ℕ) → m k < wordLimit) → sumBelow n m ≤ n * wordLimit
+  unfolding sumBelow
+  words-few m zero small = omega arith
+  words-few m (suc n) small = omega (arith, words-few m n small, small n)
+
+  pub branch-few : ((at : ℕ) → byte p at < byteLimit) → Good p level b → marksIn level (shapeAt p level b) < 4 * wordLimit
+  branch-few bytes =
+      at-branch (λ l d. Good p l b → marksIn l (shapeAt p l b) < 4 * wordLimit) level branch
+      (λ h good.
+      let m : ℕ → ℕ = wordsAt p b entryMarksAt in
+      omega (
+        arith,
+        told-all p h b length length-append m (told-marks p h b good),
+        words-few m (entries p b) (λ k. word-small p (entryAt b k + entryMarksAt) (bytes (entryAt b k + entryMarksAt)) (bytes (entryAt b k + entryMarksAt + 1))),
+        good .0 .fits,
+      ))

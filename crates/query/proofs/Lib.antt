@@ -1,0 +1,6 @@
+pub mod Seats
+pub mod Levels
+pub mod Trees
+pub mod Steps
+pub mod Descents
+pub mod Opened

@@ -1,0 +1,30 @@
+-- `query::by_name::access` meets its contract: what the root's block answers is the name's answer.
+-- Assumes nothing.
+use borrow.Author.Needs.{needs}
+use mathlib.Core.Path.{ap}
+use native.Mathlib.Omega.{arith}
+use lib.ListN.{length}
+use Rattle.query.proofs.Opened.{record-good, record-marks, record-found}
+use Rattle.query.proofs.by_name.access.Statement.{statement}
+use Rattle.query.proofs.by_name.access.Tie as tie
+
+read-record-requires : tie.Need-read-record-requires
+read-record-requires c κs = search needs
+
+cast-access-in : tie.Need-cast-access-in
+cast-access-in c = search needs
+
+access-in-requires : tie.Need-access-in-requires
+access-in-requires c κs =
+    let start = c .before .before .before in
+    let read = c .before .read-record in
+    (record-good (start .args .pool .now) (start .args .name) (start .pre .0 .1) (read .result) (read .ensures), (start .pre .1 .0, omega (arith, start .pre .1 .1, ap length (record-marks (start .args .pool .now) (start .args .name) (start .pre .0 .1) (read .result) (read .ensures)))))
+
+returns : tie.Need-returns
+returns c =
+    let start = c .before .before .before .before in
+    let read = c .before .before .read-record in
+    record-found (start .args .pool .now) (start .args .name) (start .pre .0 .1) (read .result) (read .ensures) (start .args .i) (c .access-in .result) (c .access-in .ensures)
+
+pub access-spec : {M : Type 1} → statement M
+access-spec = tie.close (tie.spec read-record-requires cast-access-in access-in-requires returns)

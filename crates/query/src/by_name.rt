@@ -1,0 +1,54 @@
+// Queries of an open name of a sound pool, by its record.
+ghost use mathlib.Core.Path.{_≡_};
+ghost use Prim.Native.Nat.{_≤_, _<_};
+ghost use lib.ListN.{length as lengthOf};
+ghost use Rattle.geometry.specs.Limits.{names, mostAlphabet};
+ghost use Rattle.pool.specs.Names.{treeOf};
+ghost use Rattle.pool.specs.Sound.{OpenName};
+ghost use Rattle.sequence.specs.Definition1.{count, rank as rankOf, select as selectOf};
+ghost use Rattle.shape.specs.Trees.{marksT};
+ghost use Rattle.query.specs.Answers.{FoundOf};
+use crate::Found;
+use crate::descent::access_in;
+use crate::descent::rank_in;
+use crate::descent::select_in;
+use pool::read_record;
+
+// The mark at place i, and its depth.
+pub fn access(pool: &[u8], name: usize, i: usize) -> Found
+    requires opened { ⌜ (name < names) × OpenName (now pool) name ⌝ }
+    requires place { ⌜ (1 ≤ i) × (i ≤ lengthOf (marksT (treeOf (now pool) name))) ⌝ }
+    ensures { λ r. ⌜ FoundOf (now (pool .entry)) name i r ⌝ }
+{
+    let record = read_record(pool, name);
+    access_in(pool, record.height, record.root as usize, i)
+}
+
+// How many of the places 1 to i bear c.
+pub fn rank(pool: &[u8], name: usize, c: u8, i: usize) -> usize
+    requires opened { ⌜ (name < names) × OpenName (now pool) name ⌝ }
+    requires place { ⌜ (c < mostAlphabet) × (i ≤ lengthOf (marksT (treeOf (now pool) name))) ⌝ }
+    ensures { λ r. ⌜ r ≡ rankOf c (marksT (treeOf (now (pool .entry)) name)) i ⌝ }
+{
+    let record = read_record(pool, name);
+    rank_in(pool, record.height, record.root as usize, c, i)
+}
+
+// The place of the j-th c.
+pub fn select(pool: &[u8], name: usize, c: u8, j: usize) -> usize
+    requires opened { ⌜ (name < names) × OpenName (now pool) name ⌝ }
+    requires number { ⌜ (c < mostAlphabet) × (1 ≤ j) × (j ≤ count c (marksT (treeOf (now pool) name))) ⌝ }
+    ensures { λ r. ⌜ r ≡ selectOf c (marksT (treeOf (now (pool .entry)) name)) j ⌝ }
+{
+    let record = read_record(pool, name);
+    select_in(pool, record.height, record.root as usize, c, j)
+}
+
+// How many marks the name has.
+pub fn length(pool: &[u8], name: usize) -> usize
+    requires opened { ⌜ (name < names) × OpenName (now pool) name ⌝ }
+    ensures { λ r. ⌜ r ≡ lengthOf (marksT (treeOf (now (pool .entry)) name)) ⌝ }
+{
+    let record = read_record(pool, name);
+    record.length as usize
+}

@@ -1,0 +1,18 @@
+// Queries of a tree in the pool: they go down from the root, one block a level.
+mod by_name;
+mod descent;
+mod seat;
+
+pub use by_name::access;
+pub use by_name::length;
+pub use by_name::rank;
+pub use by_name::select;
+pub use descent::access_in;
+pub use descent::rank_in;
+pub use descent::select_in;
+
+// The mark at a place, and how many blocks were entered on the way to it.
+pub struct Found {
+    pub mark: u8,
+    pub blocks: usize,
+}
