@@ -16,7 +16,7 @@ use Rattle.protocol.specs.State.{Part, State, closed, opened, partOf, sharesOf,
 use Rattle.protocol.specs.Valid.{Valid, ValidPart}
 use Rattle.protocol.specs.declared.Command.{Command}
 use Rattle.shape.proofs.Height.{depth-height}
-use Rattle.shape.proofs.Instances.{depth-in-rule, depth-is-one, height-in-pool}
+use Rattle.shape.proofs.Instances.{depth-keeps-rule, height-in-pool}
 use Rattle.shape.specs.Paths.{depthT}
 use Rattle.shape.specs.Trees.{Tree}
 use Rattle.machine.specs.Depth.{DepthTold, AccessTellsDepth, OthersTellNoDepth}
@@ -35,7 +35,7 @@ depth-is-told alphabet q tree place filled valid few =
     let height = height-in-pool tree filled (omega arith) in
     record {
       own = refl;
-      rule = record { most = depth-in-rule tree filled place; one = depth-is-one tree filled place };
+      rule = depth-keeps-rule tree filled place;
       high = omega (arith, depth-height place tree);
       fits = omega (arith, depth-height place tree);
     }

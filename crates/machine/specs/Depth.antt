@@ -2,26 +2,17 @@
 -- Assumes nothing.
 use mathlib.Core.Logic.{_≢_}
 use mathlib.Core.Path.{_≡_}
-use Prim.Native.Nat.{ℕ, suc, _-_, _*_, _/_, _^_, _≤_, _<_, max}
+use Prim.Native.Nat.{ℕ, suc, _≤_, _<_}
 use lib.ListN.{length}
 use Rattle.geometry.specs.Layout.{mostHeight}
-use Rattle.geometry.specs.Limits.{marksPerDepth}
 use Rattle.protocol.specs.Commands.{accessCode}
 use Rattle.protocol.specs.Respond.{respond}
 use Rattle.protocol.specs.State.{State, opened, partOf}
 use Rattle.protocol.specs.declared.Command.{Command}
+use Rattle.shape.specs.Depth.{DepthRule}
 use Rattle.shape.specs.Paths.{depthT}
 use Rattle.shape.specs.Trees.{Tree, marksT}
 use Rattle.machine.specs.Machine.{trees}
-
--- m of the depth rule, for a name with n marks
-abbrev pub depthMeasure : ℕ → ℕ
-depthMeasure n = max 1 (n / marksPerDepth)
-
--- with n marks, depth d has 2^(d - 1) at most m · m, and is 1 for fewer than two times 48 marks
-pub record DepthRule (n d : ℕ) : Type 0 where
-  pub most : 2 ^ (d - 1) ≤ depthMeasure n * depthMeasure n
-  pub one : n < 2 * marksPerDepth → d ≡ 1
 
 -- a depth told for a place of a tree: the blocks from the root to the leaf that bears the place, by the rule, and within a byte
 pub record DepthTold (tree : Tree) (place depth : ℕ) : Type 0 where

@@ -5,13 +5,13 @@ use mathlib.Core.Path.{_≡_, ap, _∙_}
 use mathlib.Core.Bool.{cond}
 use mathlib.Core.List.{List, []}
 use mathlib.Core.Logic.{⊎-elim}
-use Prim.Native.Nat.{ℕ, _+_, _-_, _*_, _/_, _^_, _≤_, _<_, max}
+use Prim.Native.Nat.{ℕ, _+_, _-_, _*_, _≤_, _<_}
 use native.Mathlib.Omega.{arith}
 use lib.Dec.{eqb}
 use lib.ListN.{length, length-append}
 use borrow.Author.Tests.{ne-eqb}
 use Rattle.geometry.specs.Layout.{kindClosed}
-use Rattle.geometry.specs.Limits.{names, marksPerShare, marksPerDepth}
+use Rattle.geometry.specs.Limits.{names, marksPerShare}
 use Rattle.geometry.specs.declared.Record.{Record}
 use Rattle.sequence.specs.Alphabet.{AllBelow, sumBelow}
 use Rattle.sequence.specs.Definition1.{count}
@@ -20,11 +20,12 @@ use Rattle.sequence.proofs.Edits.{length-insert}
 use Rattle.sequence.proofs.Measures.{count-additive}
 use Rattle.shape.specs.Blocks.{blocksT, splitsT}
 use Rattle.shape.specs.Fill.{FilledT, rootLeast}
+use Rattle.shape.specs.Depth.{DepthRule}
 use Rattle.shape.specs.Paths.{path, depthT}
 use Rattle.shape.specs.Sizes.{oneToAByte}
 use Rattle.shape.specs.Trees.{Tree, marksT, insertT}
 use Rattle.shape.proofs.Filled.{insertT-filled}
-use Rattle.shape.proofs.Instances.{oneToAByte-proper, blocks-in-shares, depth-in-rule}
+use Rattle.shape.proofs.Instances.{oneToAByte-proper, blocks-in-shares, depth-keeps-rule}
 use Rattle.shape.proofs.Marks.{insertT-marks}
 use Rattle.shape.proofs.Splits.{insertT-blocks}
 use Rattle.pool.specs.Bytes.{shares, from}
@@ -82,8 +83,8 @@ module _ (p : List ℕ) (name : ℕ) (open-name : OpenName p name) where
   pub open-depth : (i : ℕ) → length (pathOf p name i) ≡ depthT i (treeOf p name)
   open-depth i = length-entered p (recordOf p name .root) (path length (recordOf p name .height) i (shapeAt p (recordOf p name .height) (recordOf p name .root)))
 
-  pub open-depth-rule : (i : ℕ) → 2 ^ (length (pathOf p name i) - 1) ≤ max 1 (recordOf p name .length / marksPerDepth) * max 1 (recordOf p name .length / marksPerDepth)
-  open-depth-rule i = rw (open-depth i, open-name .length) (depth-in-rule (treeOf p name) open-filled i)
+  pub open-depth-rule : (i : ℕ) → DepthRule (recordOf p name .length) (length (pathOf p name i))
+  open-depth-rule i = rw (open-depth i, open-name .length) (depth-keeps-rule (treeOf p name) open-filled i)
 
 -- A sound pool.
 module _ (p : List ℕ) (sound : Sound p) where

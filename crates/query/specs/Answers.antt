@@ -2,12 +2,12 @@
 -- Assumes nothing.
 use mathlib.Core.Path.{_≡_}
 use mathlib.Core.List.{List}
-use Prim.Native.Nat.{ℕ, _-_, _*_, _/_, _^_, _≤_, max}
+use Prim.Native.Nat.{ℕ}
 use lib.ListN.{length}
-use Rattle.geometry.specs.Limits.{marksPerDepth}
 use Rattle.pool.specs.Names.{treeOf, pathOf}
 use Rattle.pool.specs.Trees.{shapeAt, pathAt}
 use Rattle.sequence.specs.Definition1.{access}
+use Rattle.shape.specs.Depth.{DepthRule}
 use Rattle.shape.specs.Nested.{flat}
 use Rattle.shape.specs.Paths.{depthT}
 use Rattle.shape.specs.Trees.{marksT}
@@ -17,10 +17,6 @@ use Rattle.query.specs.declared.Found.{Found}
 pub record FoundIn (p : List ℕ) (h b i : ℕ) (r : Found) : Type 0 where
   pub mark : r .mark ≡ access (flat h (shapeAt p h b)) i
   pub blocks : r .blocks ≡ length (pathAt p h i b)
-
--- document 01's rule of the depth: with n marks, m is the larger of 1 and n / 48 rounded down
-abbrev pub DepthRule : ℕ → ℕ → Type 0
-DepthRule n depth = 2 ^ (depth - 1) ≤ max 1 (n / marksPerDepth) * max 1 (n / marksPerDepth)
 
 -- the mark at place i of a name, and its depth
 pub record FoundOf (p : List ℕ) (name i : ℕ) (r : Found) : Type 0 where

@@ -8,6 +8,7 @@ use Rattle.geometry.specs.Layout.{mostHeight}
 use Rattle.geometry.specs.Limits.{marksPerShare, marksPerDepth, mostMarks}
 use Rattle.shape.specs.Sizes.{Proper, oneToAByte, twoToAByte}
 use Rattle.shape.specs.Trees.{Tree, marksT}
+use Rattle.shape.specs.Depth.{DepthRule}
 use Rattle.shape.specs.Fill.{FilledT}
 use Rattle.shape.specs.Blocks.{blocksT}
 use Rattle.shape.specs.Paths.{depthT}
@@ -42,6 +43,10 @@ module _ (t : Tree) (filled : FilledT oneToAByte t) where
   -- up to one mark less than twice those of the depth rule, the tree is one block
   pub depth-is-one : (i : ℕ) → length (marksT t) < 2 * marksPerDepth → depthT i t ≡ 1
   depth-is-one i few = depth-one oneToAByte oneToAByte-proper marksPerDepth (omega arith) i t filled few
+
+  -- document 01's rule
+  pub depth-keeps-rule : (i : ℕ) → DepthRule (length (marksT t)) (depthT i t)
+  depth-keeps-rule i = record { most = depth-in-rule i; one = depth-is-one i }
 
   -- and so it is as long as one leaf can bear the marks
   pub leaf-is-one : (i : ℕ) → length (marksT t) ≤ oneToAByte .leafMost → depthT i t ≡ 1

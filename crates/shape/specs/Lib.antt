@@ -5,3 +5,4 @@ pub mod Trees
 pub mod Fill
 pub mod Blocks
 pub mod Paths
+pub mod Depth
