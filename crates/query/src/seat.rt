@@ -26,7 +26,8 @@ fn entry_word(pool: &[u8], b: usize, k: usize, offset: usize) -> usize
     word(pool, at + offset)
 }
 
-// The child that takes i: the first up to which the words add up to i or more, or the last.
+// The child that takes i: the first up to which the words add up to i or more, or the last. So 0 goes to the first child, and a child's
+// last place stays with that child.
 pub fn seat_by(pool: &[u8], b: usize, offset: usize, i: usize) -> Seat
     requires inside { ⌜ (b < shares (now pool)) × (offset + wordSize ≤ entrySize) ⌝ }
     requires branch { ⌜ (leastBranch ≤ entries (now pool) b) × (entries (now pool) b ≤ mostBranch) ⌝ }
