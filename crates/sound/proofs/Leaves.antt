@@ -1,0 +1,47 @@
+-- A leaf's marks, one by one.
+-- Assumes nothing.
+use mathlib.Core.Bool.{true, false}
+use mathlib.Core.List.{List}
+use mathlib.Core.Path.{_≡_}
+use Prim.Native.Nat.{ℕ, _+_, _≤_, _<_}
+use native.Mathlib.Omega.{arith}
+use borrow.Author.Count.{below-none, below-more}
+use lib.ListN.{length, drop, length-take, length-drop}
+use Rattle.geometry.specs.Layout.{mostLeaf}
+use Rattle.pool.specs.Blocks.{entries, leafMarks}
+use Rattle.pool.specs.Bytes.{byte, shares, blockAt}
+use Rattle.pool.proofs.Leaves.{block-inside, leaf-mark}
+use Rattle.sequence.proofs.Alphabets.{allBelow-getD, allBelow-from-getD}
+use Rattle.sequence.specs.Alphabet.{AllBelow}
+use Rattle.sound.specs.Says.{Says}
+use Rattle.sound.proofs.Deciding.{say-yes, say-no}
+
+-- so many marks from the front are below the alphabet's size
+abbrev pub BelowTo : List ℕ → ℕ → ℕ → ℕ → Type 0
+BelowTo p b alphabet i = (j : ℕ) → j < i → byte p (blockAt b + j) < alphabet
+
+module _ (p : List ℕ) (b alphabet : ℕ) where
+  pub below-start : BelowTo p b alphabet 0
+  below-start = below-none (λ j. byte p (blockAt b + j) < alphabet)
+
+  pub below-next : (i : ℕ) → BelowTo p b alphabet i → byte p (blockAt b + i) < alphabet → BelowTo p b alphabet (i + 1)
+  below-next i before here = below-more (λ j. byte p (blockAt b + j) < alphabet) i before here
+
+  module _ (many : ℕ) (inside : b < shares p) (size : many ≡ entries p b) (fits : many ≤ mostLeaf) where
+    length-marks : length (leafMarks p b) ≡ many
+    unfolding leafMarks
+    length-marks = omega (arith, length-take (entries p b) (drop (blockAt b) p), length-drop (blockAt b) p, block-inside p b inside)
+
+    pub below-all : (i : ℕ) → BelowTo p b alphabet i → many ≤ i → Says true (AllBelow alphabet (leafMarks p b))
+    below-all i before end =
+        say-yes
+        (allBelow-from-getD alphabet (leafMarks p b)
+        (λ j l. let low : j < many = omega (arith, length-marks) in rw (leaf-mark p b j (omega arith)) (before j (omega arith))))
+
+    pub below-not : (i : ℕ) → i < many → alphabet ≤ byte p (blockAt b + i) → Says false (AllBelow alphabet (leafMarks p b))
+    below-not i low high =
+        say-no
+        (λ all.
+        let here : byte p (blockAt b + i) < alphabet
+        = rw (leaf-mark p b i (omega arith)) at (allBelow-getD alphabet (leafMarks p b) all i (omega (arith, length-marks))) in
+        omega arith)

@@ -1,0 +1,15 @@
+pub mod Deciding
+pub mod Levels
+pub mod Stretches
+pub mod Leaves
+pub mod Walks
+pub mod Entering
+pub mod Repeating
+pub mod Walking
+pub mod Marked
+pub mod Lengths
+pub mod Records
+pub mod Naming
+pub mod Visits
+pub mod Holders
+pub mod Checks

@@ -1,0 +1,151 @@
+-- One name: closed, its record is zeros and it holds no block; open, its record is in order, its tree is walked, and its length is what the root says.
+-- Assumes nothing.
+use mathlib.Core.Bool.{Bool, true, false, cond}
+use mathlib.Core.List.{List, []}
+use mathlib.Core.Logic.{inl, inr, ⊎-elim}
+use mathlib.Core.Path.{_≡_, refl, sym, ap, _∙_}
+use Prim.Native.Nat.{ℕ, _+_, _≤_, _<_}
+use native.Mathlib.Omega.{arith}
+use lib.Dec.{eqb}
+use borrow.Author.Tests.{eq-eqb, ne-eqb}
+use Rattle.entries.proofs.Totals.{sum-more, sum-all}
+use Rattle.geometry.specs.Layout.{recordSize, kindClosed, qAt}
+use Rattle.geometry.specs.Limits.{names}
+use Rattle.geometry.specs.declared.Record.{Record}
+use Rattle.pool.specs.Blocks.{entries}
+use Rattle.pool.specs.Bytes.{shares, recordAt}
+use Rattle.pool.specs.Names.{recordOf, blocksOf}
+use Rattle.pool.specs.Shares.{promisedShares}
+use Rattle.pool.specs.Sound.{OpenName}
+use Rattle.pool.specs.Trees.{blocksAt, ownMarks}
+use Rattle.pool.specs.Words.{WordAt}
+use Rattle.pool.proofs.Written.{closed-record}
+use Rattle.pool.proofs.Summaries.{own-marks}
+use Rattle.sequence.specs.Alphabet.{sumBelow}
+use Rattle.shape.specs.Fill.{rootLeast}
+use Rattle.shape.specs.Sizes.{oneToAByte, most}
+use Rattle.sound.specs.Maps.{Walked}
+use Rattle.sound.specs.Parts.{Zeros, OpenRecord, SoundTree, SoundName}
+use Rattle.sound.specs.Says.{Says}
+use Rattle.sound.proofs.Deciding.{denied, say-same, say-equal}
+use Rattle.sound.proofs.Walks.{walk-no, walk-same, walk-test, walk-found}
+
+-- The tree of an open name.
+module _ (p : List ℕ) (name : ℕ) where
+  abbrev Root : Type 0
+  Root = SoundTree p (recordOf p name .alphabet) (rootLeast (recordOf p name .height)) (recordOf p name .height) (recordOf p name .root)
+
+  abbrev rootBlocks : List ℕ
+  rootBlocks = blocksAt p (recordOf p name .height) (recordOf p name .root)
+
+  root-of : OpenName p name → Root
+  root-of o = (o .root, o .below)
+
+  -- the length is what the root says of itself
+  whole : OpenRecord p name → Root → recordOf p name .length ≡ ownMarks p (recordOf p name .height) (recordOf p name .root) → OpenName p name
+  whole o tree long = record {
+    kind = o .kind;
+    alphabetLeast = o .alphabetLeast;
+    alphabetMost = o .alphabetMost;
+    promise = o .promise;
+    height = o .height;
+    zeroByte = o .zeroByte;
+    spare = o .spare;
+    root = tree .0;
+    below = tree .1;
+    length = long
+        ∙ own-marks p (recordOf p name .alphabet) (rootLeast (recordOf p name .height)) (recordOf p name .height) (recordOf p name .root) (tree .0) (tree .1);
+    room = o .room;
+  }
+
+  record-of : OpenName p name → OpenRecord p name
+  record-of o = record {
+    kind = o .kind;
+    alphabetLeast = o .alphabetLeast;
+    alphabetMost = o .alphabetMost;
+    promise = o .promise;
+    height = o .height;
+    zeroByte = o .zeroByte;
+    spare = o .spare;
+    room = o .room;
+  }
+
+  long-of : OpenName p name → recordOf p name .length ≡ ownMarks p (recordOf p name .height) (recordOf p name .root)
+  long-of o =
+      o .length
+      ∙ sym (own-marks p (recordOf p name .alphabet) (rootLeast (recordOf p name .height)) (recordOf p name .height) (recordOf p name .root) (o .root) (o .below))
+
+  pub record-refused : (tag : ℕ) (bs map after : List ℕ) (r : Bool) → Says r (OpenRecord p name) → r ≡ false → Walked false (OpenName p name) tag bs map after
+  record-refused tag bs map after r says failed = walk-no tag bs map after (λ o new. denied says failed (record-of o))
+
+  module _ (tag : ℕ) (map after : List ℕ) (r : Bool) (walked : Walked r Root tag rootBlocks map after) where
+    refused : r ≡ false → Walked false (OpenName p name) tag rootBlocks map after
+    refused failed = walk-no tag rootBlocks map after (λ o new. denied (walked .says) failed (root-of o, new))
+
+    measured : (own : ℕ) → OpenRecord p name → r ≡ true → own ≡ ownMarks p (recordOf p name .height) (recordOf p name .root)
+        → Walked (eqb own (recordOf p name .length)) (OpenName p name) tag rootBlocks map after
+    measured own o passed summed =
+        walk-same tag rootBlocks map after (λ g. whole o (g .0) (g .1)) (λ n. (root-of n, long-of n))
+        (walk-test tag rootBlocks map after passed walked (say-equal own (recordOf p name .length)) (λ tree e. sym e ∙ summed) (λ tree e. summed ∙ sym e))
+
+-- the same as the code has it: the record in a local
+module _ (p : List ℕ) (name tag fewest : ℕ) (found : Record) (is : found ≡ recordOf p name) (few : fewest ≡ rootLeast (found .height))
+    (map after : List ℕ) (r : Bool) (walked : Walked r (SoundTree p (found .alphabet) fewest (found .height) (found .root)) tag (blocksAt p (found .height) (found .root)) map after) where
+  pub root-inside : r ≡ true → found .root < shares p
+  root-inside passed = walk-found tag passed walked .0 .inside
+
+  pub root-fits : r ≡ true → entries p (found .root) ≤ most oneToAByte (found .height)
+  root-fits passed = walk-found tag passed walked .0 .fits
+
+  there : Walked r (Root p name) tag (rootBlocks p name) map after
+  there = rw (few, is) at walked
+
+  pub root-refused : r ≡ false → Walked false (OpenName p name) tag (blocksAt p (found .height) (found .root)) map after
+  root-refused failed = rw is (refused p name tag map after r there failed)
+
+  pub root-measured : (s : Bool) (own : ℕ) → Says s (OpenRecord p name) → s ≡ true → r ≡ true → own ≡ ownMarks p (found .height) (found .root)
+      → Walked (eqb own (found .length)) (OpenName p name) tag (blocksAt p (found .height) (found .root)) map after
+  root-measured s own says opened passed summed = rw is (measured p name tag map after r there own (says .sound opened) passed (rw is at summed))
+
+-- A name, by its kind.
+module _ (p : List ℕ) (name : ℕ) (found : Record) (is : found ≡ recordOf p name) where
+  no-blocks : found .kind ≡ kindClosed → blocksOf p name ≡ []
+  unfolding blocksOf
+  no-blocks closed =
+      ap (λ b. cond b [] (blocksAt p (recordOf p name .height) (recordOf p name .root)))
+      (eq-eqb (recordOf p name .kind) kindClosed (rw is at closed))
+
+  tree-blocks : (found .kind ≡ kindClosed → ⊥) → blocksOf p name ≡ blocksAt p (found .height) (found .root)
+  unfolding blocksOf
+  tree-blocks opened =
+      ap (λ b. cond b [] (blocksAt p (recordOf p name .height) (recordOf p name .root)))
+      (ne-eqb (recordOf p name .kind) kindClosed (rw is at opened))
+      ∙ ap (λ (r : Record). blocksAt p (r .height) (r .root)) (sym is)
+
+  pub closed-walked : (tag : ℕ) (map : List ℕ) (r : Bool) → found .kind ≡ kindClosed → Says r (Zeros p (recordAt name) recordSize)
+      → Walked r (SoundName p name) tag (blocksOf p name) map map
+  closed-walked tag map r closed zeros =
+      let kind : recordOf p name .kind ≡ kindClosed = rw is at closed in
+      rw (no-blocks closed) (record {
+        says = say-same (λ z. (inl z, tt)) (λ g. ⊎-elim (λ c. c) (λ o. absurd (omega (arith, o .kind))) (g .0)) zeros;
+        met = λ e. refl;
+      })
+
+  pub open-walked : (tag : ℕ) (map after : List ℕ) (r : Bool) → (found .kind ≡ kindClosed → ⊥)
+      → Walked r (OpenName p name) tag (blocksAt p (found .height) (found .root)) map after
+      → Walked r (SoundName p name) tag (blocksOf p name) map after
+  open-walked tag map after r opened walked =
+      let kind : recordOf p name .kind ≡ kindClosed → ⊥ = rw is at opened in
+      rw (tree-blocks opened)
+      (walk-same tag (blocksAt p (found .height) (found .root)) map after (λ o. inr o)
+      (λ n. ⊎-elim (λ c. absurd (kind (ap (λ (r : Record). r .kind) (closed-record p name c)))) (λ o. o) n) walked)
+
+-- The shares that the names are promised.
+pub promise-more : (p : List ℕ) (name sum q : ℕ) → sum ≡ sumBelow name (λ n. recordOf p n .q) → WordAt p (recordAt name + qAt) q
+    → sum + q ≡ sumBelow (name + 1) (λ n. recordOf p n .q)
+unfolding recordOf
+promise-more p name sum q so read = sum-more (λ n. recordOf p n .q) name sum q so (read .is)
+
+pub promise-all : (p : List ℕ) (name sum : ℕ) → sum ≡ sumBelow name (λ n. recordOf p n .q) → name ≤ names → names ≤ name → sum ≡ promisedShares p
+unfolding promisedShares
+promise-all p name sum so low end = sum-all (λ n. recordOf p n .q) names name sum so low end

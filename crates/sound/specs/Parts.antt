@@ -1,0 +1,59 @@
+-- What the parts of the check decide.
+-- Assumes nothing.
+use mathlib.Core.Bool.{Bool, true}
+use mathlib.Core.List.{List}
+use mathlib.Core.Logic.{_⊎_}
+use mathlib.Core.Path.{_≡_}
+use Prim.Native.Nat.{ℕ, _+_, _*_, _≤_, _<_}
+use Rattle.geometry.specs.Layout as Layout
+use Rattle.geometry.specs.Limits.{leastAlphabet, mostAlphabet, marksPerShare}
+use Rattle.shape.specs.Sizes.{oneToAByte, least}
+use Rattle.pool.specs.Blocks.{link, marksBelow, countBelow}
+use Rattle.pool.specs.Bytes.{byte, recordAt}
+use Rattle.pool.specs.Names.{recordOf}
+use Rattle.pool.specs.Sound.{SoundBlock, SoundBelow, Tells, ClosedName, OpenName, Sound}
+use Rattle.pool.specs.Trees.{ownMarks, ownCount}
+use Rattle.sound.specs.Maps.{MapOf}
+use Rattle.sound.specs.Says.{Says}
+
+-- so many bytes from an address on are 0
+abbrev pub Zeros : List ℕ → ℕ → ℕ → Type 0
+Zeros p at many = (j : ℕ) → j < many → byte p (at + j) ≡ 0
+
+-- a tree: its block, and all that stands below it
+abbrev pub SoundTree : List ℕ → ℕ → ℕ → ℕ → ℕ → Type 0
+SoundTree p alphabet fewest h b = SoundBlock p fewest h b × SoundBelow p alphabet h b
+
+-- child k of a branch, at level h, and what its entry says of it
+abbrev pub SoundChild : List ℕ → ℕ → ℕ → ℕ → ℕ → Type 0
+SoundChild p alphabet h b k =
+    SoundBlock p (least oneToAByte h) h (link p b k) × SoundBelow p alphabet h (link p b k) × Tells p h b k
+
+-- so many children in turn, from child k on
+abbrev pub SoundChildren : List ℕ → ℕ → ℕ → ℕ → ℕ → ℕ → Type 0
+SoundChildren p alphabet h b k left = (j : ℕ) → k ≤ j → j < k + left → SoundChild p alphabet h b j
+
+-- entry k of a branch is the summary of the block `child`, by that block's own bytes
+pub record Repeats (p : List ℕ) (h b k child : ℕ) : Type 0 where
+  pub marks : marksBelow p b k ≡ ownMarks p h child
+  pub counts : (c : ℕ) → c < mostAlphabet → countBelow p b k c ≡ ownCount p h child c
+
+-- an open name's record, its tree aside
+pub record OpenRecord (p : List ℕ) (name : ℕ) : Type 0 where
+  pub kind : recordOf p name .kind ≡ Layout.kindMarks
+  pub alphabetLeast : leastAlphabet ≤ recordOf p name .alphabet
+  pub alphabetMost : recordOf p name .alphabet ≤ mostAlphabet
+  pub promise : 1 ≤ recordOf p name .q
+  pub height : recordOf p name .height ≤ Layout.mostHeight
+  pub zeroByte : byte p (recordAt name + Layout.zeroAt) ≡ 0
+  pub spare : (j : ℕ) → Layout.spareAt ≤ j → j < Layout.recordSize → byte p (recordAt name + j) ≡ 0
+  pub room : recordOf p name .length ≤ marksPerShare * recordOf p name .q
+
+-- a name is closed or open, and sound as such
+abbrev pub SoundName : List ℕ → ℕ → Type 0
+SoundName p name = ClosedName p name ⊎ OpenName p name
+
+-- the whole check: exact, and where the pool is sound the map says who holds each block
+pub record Checked (p : List ℕ) (r : Bool) (map : List ℕ) : Type 0 where
+  pub says : Says r (Sound p)
+  pub holders : r ≡ true → MapOf p map

@@ -1,0 +1,78 @@
+// The walk over a tree: checking a block and checking a branch's children call each other.
+ghost use mathlib.Core.Path.{_≡_};
+ghost use Prim.Native.Nat.{_+_, _≤_, _<_};
+ghost use lib.ListN.{length};
+ghost use Rattle.geometry.specs.Layout.{mostBranch};
+ghost use Rattle.geometry.specs.Limits.{directorySize, longestPool};
+ghost use Rattle.pool.specs.Blocks.{link as linkOf};
+ghost use Rattle.pool.specs.Bytes.{shares, from};
+ghost use Rattle.pool.specs.Trees.{blocksAt};
+ghost use Rattle.shape.specs.Nested.{joined};
+ghost use Rattle.sound.specs.Maps.{Walked};
+ghost use Rattle.sound.specs.Parts.{SoundTree, SoundChildren};
+use crate::blocks::enter;
+use crate::blocks::least_entries;
+use crate::blocks::marks_below;
+use crate::summaries::repeats;
+use entries::entry_count;
+use entries::link;
+use geometry::Record;
+
+// Whether the tree at a block is sound and none of its blocks was met before. They are then marked as the holder's.
+pub fn check_block(
+    pool: &[u8],
+    level: usize,
+    b: usize,
+    fewest: usize,
+    alphabet: u8,
+    map: &mut [u8; Record::MOST_SHARES],
+    holder: u8,
+) -> bool
+    requires { ⌜ (directorySize ≤ length (now pool)) × (length (now pool) ≤ longestPool) ⌝ }
+    ensures { λ r. ⌜ Walked r (SoundTree (now (pool .entry)) alphabet fewest level b) holder (blocksAt (now (pool .entry)) level b) (now (map .entry)) (now (map .exit)) ⌝ }
+{
+    if !enter(pool, level, b, fewest, map, holder) {
+        return false;
+    }
+    let many = entry_count(pool, b);
+    if level == 0 {
+        return marks_below(pool, b, many, alphabet);
+    }
+    check_children(pool, level - 1, b, 0, many, alphabet, map, holder)
+}
+
+// The same for a branch's children of a level, from child k on, so many as are left; each entry must repeat its child's summary.
+fn check_children(
+    pool: &[u8],
+    level: usize,
+    b: usize,
+    k: usize,
+    left: usize,
+    alphabet: u8,
+    map: &mut [u8; Record::MOST_SHARES],
+    holder: u8,
+) -> bool
+    requires size { ⌜ (directorySize ≤ length (now pool)) × (length (now pool) ≤ longestPool) ⌝ }
+    requires branch { ⌜ (b < shares (now pool)) × (k + left ≤ mostBranch) ⌝ }
+    ensures { λ r. ⌜ Walked r (SoundChildren (now (pool .entry)) alphabet level b k left) holder (joined (blocksAt (now (pool .entry)) level) (from (linkOf (now (pool .entry)) b) k left)) (now (map .entry)) (now (map .exit)) ⌝ }
+{
+    if left == 0 {
+        return true;
+    }
+    let child = link(pool, b, k);
+    if !check_block(
+        pool,
+        level,
+        child,
+        least_entries(level),
+        alphabet,
+        map,
+        holder,
+    ) {
+        return false;
+    }
+    if !repeats(pool, level, b, k, child) {
+        return false;
+    }
+    check_children(pool, level, b, k + 1, left - 1, alphabet, map, holder)
+}
