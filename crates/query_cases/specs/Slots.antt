@@ -1,0 +1,7 @@
+-- What the program reads behind the pool.
+-- Assumes nothing.
+use Prim.Native.Nat.{ℕ}
+
+-- bytes of what is expected of each name
+abbrev pub slotSize : ℕ
+slotSize = 1024
