@@ -1,0 +1,120 @@
+-- One level down: the child that takes the place is ready for the insert where its parent is.
+-- Assumes nothing.
+use mathlib.Core.Path.{_≡_, sym, ap, ap₂, _∙_}
+use mathlib.Core.Bool.{cond}
+use mathlib.Core.List.{List, _∷_, _++_}
+use mathlib.Core.Logic.{⊎-elim}
+use Prim.Native.Nat.{ℕ, suc, _+_, _-_, _≤_, _<_}
+use native.Mathlib.Nat.{eq-zero-or-pos}
+use native.Mathlib.Omega.{arith}
+use lib.ListN.{length, take, drop, length-append}
+use lib.Seq.{length-take-le}
+use Rattle.geometry.specs.Layout.{leastBranch, mostBranch}
+use Rattle.sequence.specs.Alphabet.{sumBelow}
+use Rattle.sequence.specs.Definition1.{isMark, count}
+use Rattle.shape.proofs.Choice.{by-leb}
+use Rattle.shape.proofs.Filled.{root-least}
+use Rattle.shape.proofs.Instances.{oneToAByte-proper}
+use Rattle.shape.proofs.Seat.{seat-takes, rest-takes, chosen-takes}
+use Rattle.shape.proofs.Steps.{splits-takes}
+use Rattle.shape.specs.Blocks.{divides, splits}
+use Rattle.shape.specs.Level.{Takes, seat, rest, chosen}
+use Rattle.shape.specs.Nested.{Node, total, marksIn}
+use Rattle.shape.specs.Paths.{path}
+use Rattle.shape.specs.Sizes.{oneToAByte, least}
+use Rattle.pool.proofs.Children.{length-shape, shape-around, told-before, told-all, told-takes, count-blocks}
+use Rattle.pool.proofs.Sums.{sumBelow-one}
+use Rattle.pool.specs.Blocks.{entries, link, marksBelow}
+use Rattle.pool.specs.Bytes.{shares}
+use Rattle.pool.specs.Sound.{SoundBlock}
+use Rattle.pool.specs.Trees.{shapeAt, blocksAt, entered, pathAt}
+use Rattle.edit.specs.Inserts.{InsertReady}
+use Rattle.edit.specs.Seats.{Seated}
+use Rattle.edit.specs.declared.seat.Seat.{Seat}
+
+-- what the choice of a child needs
+pub branch-ready : (p m : List ℕ) (h b i c holder : ℕ) → InsertReady p m (suc h) b i c holder → (b < shares p) × (leastBranch ≤ entries p b) × (entries p b ≤ mostBranch)
+branch-ready p m h b i c holder ready = (ready .block .inside, ready .block .enough, ready .block .fits)
+
+module _ (p m : List ℕ) (h b i c holder : ℕ) (ready : InsertReady p m (suc h) b i c holder) (s : Seat) (seated : Seated (marksBelow p b) (entries p b) i s) where
+  abbrev pub childOf : ℕ
+  childOf = link p b (s .k)
+
+  told : (k : ℕ) → k < entries p b → marksBelow p b k ≡ marksIn h (shapeAt p h (link p b k))
+  told k l = ready .below k l .2 .marks
+
+  pub child-takes : Takes (marksIn h) i (take (s .k) (shapeAt p (suc h) b)) (shapeAt p h childOf) (drop (suc (s .k)) (shapeAt p (suc h) b))
+  child-takes =
+      told-takes p h b length length-append (marksBelow p b) told i (s .k) (seated .inside)
+      (λ (l : 0 < s .k). omega (arith, seated .past l, seated .sum)) (λ l. omega (arith, seated .reach l, seated .sum))
+
+  pub before-total : total (marksIn h) (take (s .k) (shapeAt p (suc h) b)) ≡ s .before
+  before-total = sym (seated .sum ∙ told-before p h b length length-append (marksBelow p b) told (s .k) (omega (arith, seated .inside)))
+
+  pub before-least : s .before < i
+  unfolding sumBelow
+  before-least =
+      ⊎-elim (λ (e : s .k ≡ 0). omega (arith, seated .sum, ap (λ (k : ℕ). sumBelow k (marksBelow p b)) e, ready .first))
+      (λ l. seated .past l) (eq-zero-or-pos (s .k))
+
+  -- the place is in the child, or just behind it where it is the last
+  place-last : i - s .before ≤ marksIn h (shapeAt p h childOf) + 1
+  unfolding sumBelow
+  place-last =
+      by-leb {A = Unit {0}} (λ _. i - s .before ≤ marksIn h (shapeAt p h childOf) + 1) (suc (suc (s .k))) (entries p b) tt tt
+      (λ l. omega (arith, seated .reach l, told (s .k) (seated .inside)))
+      (λ (l : entries p b < suc (suc (s .k))).
+      let e : entries p b ≡ suc (s .k) = omega (arith, seated .inside) in
+      let all : sumBelow (suc (s .k)) (marksBelow p b) ≡ marksIn (suc h) (shapeAt p (suc h) b) =
+      ap (λ (n : ℕ). sumBelow n (marksBelow p b)) (sym e) ∙ told-all p h b length length-append (marksBelow p b) told in
+      omega (arith, ready .last, seated .sum, told (s .k) (seated .inside)))
+
+  pub child-short : marksIn h (shapeAt p h childOf) ≤ marksIn (suc h) (shapeAt p (suc h) b)
+  child-short =
+      omega (arith, told (s .k) (seated .inside), sumBelow-one (entries p b) (marksBelow p b) (s .k) (seated .inside), told-all p h b length length-append (marksBelow p b) told)
+
+  -- the shape, around the child
+  pub around : shapeAt p (suc h) b ≡ take (s .k) (shapeAt p (suc h) b) ++ shapeAt p h childOf ∷ drop (suc (s .k)) (shapeAt p (suc h) b)
+  around = shape-around p h b (s .k) (seated .inside)
+
+  pub child-splits : splits oneToAByte (suc h) i (shapeAt p (suc h) b)
+      ≡ splits oneToAByte h (i - s .before) (shapeAt p h childOf) + cond (divides oneToAByte (suc h) i (shapeAt p (suc h) b)) 1 0
+  child-splits =
+      ap (splits oneToAByte (suc h) i) around
+      ∙ splits-takes oneToAByte h i _ (shapeAt p h childOf) _ child-takes
+      ∙ ap₂ (λ (n : ℕ) (x : Node (suc h)). splits oneToAByte h (i - n) (shapeAt p h childOf) + cond (divides oneToAByte (suc h) i x) 1 0) before-total (sym around)
+
+  -- the blocks below the child are the branch's too, and the branch is none of them
+  pub child-blocks : (x : ℕ) → isMark x b + count x (blocksAt p h childOf) ≤ count x (blocksAt p (suc h) b)
+  child-blocks x = omega (arith, count-blocks p h b x, sumBelow-one (entries p b) (λ k. count x (blocksAt p h (link p b k))) (s .k) (seated .inside))
+
+  pub child-ready : InsertReady p m h childOf (i - s .before) c holder
+  child-ready =
+      let block : SoundBlock p (least oneToAByte h) h childOf = ready .below (s .k) (seated .inside) .0 in
+      record {
+        map = ready .map;
+        block = record { inside = block .inside; form = block .form; enough = omega (arith, block .enough, root-least oneToAByte oneToAByte-proper h); fits = block .fits };
+        below = ready .below (s .k) (seated .inside) .1;
+        agrees = λ x. omega (arith, ready .agrees x, child-blocks x);
+        first = omega (arith, before-least);
+        last = place-last;
+        symbol = ready .symbol;
+        short = omega (arith, ready .short, child-short);
+        room = omega (arith, ready .room, child-splits);
+      }
+
+  -- the path goes on in the child
+  pub child-path : pathAt p (suc h) i b ≡ b ∷ pathAt p h (i - s .before) childOf
+  unfolding path
+  child-path =
+      let x : Node (suc h) = shapeAt p (suc h) b in
+      let front : List (Node h) = take (s .k) x in
+      let back : List (Node h) = drop (suc (s .k)) x in
+      let y : Node h = shapeAt p h childOf in
+      let f : Node h → ℕ = marksIn h in
+      let at : seat f i x ≡ s .k =
+      ap (seat f i) around ∙ seat-takes f i front y back child-takes ∙ length-take-le (s .k) x (omega (arith, length-shape p h b, seated .inside)) in
+      let left : rest f i x ≡ i - s .before = ap (rest f i) around ∙ rest-takes f i front y back child-takes ∙ ap (λ (n : ℕ). i - n) before-total in
+      let it : chosen f i x ≡ y = ap (chosen f i) around ∙ chosen-takes f i front y back child-takes in
+      ap (λ (k : ℕ). b ∷ entered p (link p b k) (path length h (rest f i x) (chosen f i x))) at
+      ∙ ap₂ (λ (j : ℕ) (z : Node h). b ∷ entered p childOf (path length h j z)) left it

@@ -1,0 +1,5 @@
+pub mod Maps
+pub mod Inserts
+pub mod Entries
+pub mod Grafts
+pub mod Seats

@@ -1,0 +1,15 @@
+// Marks put into a name's tree. Blocks are taken from the map of the pool's blocks when a node is split, and not before.
+mod branches;
+mod insert;
+mod leaves;
+mod map;
+mod seat;
+
+pub use insert::insert_in;
+pub use map::take_block;
+
+// What an edit of a block came to: whether it was split, and if so the new block, which stands behind it.
+pub struct Grown {
+    pub split: bool,
+    pub new: usize,
+}
