@@ -51,7 +51,7 @@ module _ (p : List ℕ) (h b : ℕ) where
         true =
             record {
               marks = rw (entry-link p b k) (entry-below p b k ∙ child .2 .marks);
-              counts = λ c inside. rw (entry-link p b k) (entry-count p b k c inside ∙ child .2 .counts c inside);
+              counts = λ c inside. rw (entry-link p b k) (entry-count p b k c (omega arith) ∙ child .2 .counts c (omega arith));
             };
       })
 

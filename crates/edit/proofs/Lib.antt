@@ -16,3 +16,5 @@ pub mod Regroups
 pub mod Ascents
 pub mod Levels
 pub mod Outcomes
+pub mod RootGrowths
+pub mod WholeTrees

@@ -3,3 +3,5 @@ pub mod Inserts
 pub mod Entries
 pub mod Grafts
 pub mod Seats
+pub mod Roots
+pub mod Trees

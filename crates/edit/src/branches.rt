@@ -89,7 +89,7 @@ fn split_branch(pool: &mut [u8], b: usize, new: usize, k: usize, child: usize, s
 }
 
 // Puts an entry in as number k of a branch with room.
-fn put_entry(pool: &mut [u8], b: usize, k: usize, child: usize, summary: Summary)
+pub fn put_entry(pool: &mut [u8], b: usize, k: usize, child: usize, summary: Summary)
     requires { ⌜ BranchAt (now pool) b × (k ≤ entries (now pool) b) × (entries (now pool) b < mostBranch) × (child < wordLimit) ⌝ }
     ensures { λ _. ⌜ EntryPut b k child summary (now (pool .entry)) (now (pool .exit)) ⌝ }
 {

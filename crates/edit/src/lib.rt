@@ -3,10 +3,15 @@ mod branches;
 mod insert;
 mod leaves;
 mod map;
+mod root;
 mod seat;
+mod tree;
 
 pub use insert::insert_in;
 pub use map::take_block;
+pub use root::grow_root;
+pub use tree::Rooted;
+pub use tree::insert_in_tree;
 
 // What an edit of a block came to: whether it was split, and if so the new block, which stands behind it.
 pub struct Grown {

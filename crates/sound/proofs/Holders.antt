@@ -25,10 +25,10 @@ use Rattle.sound.specs.Parts.{SoundName}
 use Rattle.sound.proofs.Marked.{meet-length, meet-other, meet-same, new-clear, new-distinct, distinct-new}
 
 -- how often a block stands among those of the names below n
-abbrev times : List ℕ → ℕ → ℕ → ℕ
+abbrev pub times : List ℕ → ℕ → ℕ → ℕ
 times p b n = sumBelow n (λ name. count b (blocksOf p name))
 
-times-held : (p : List ℕ) (b : ℕ) → count b (heldBlocks p) ≡ times p b names
+pub times-held : (p : List ℕ) (b : ℕ) → count b (heldBlocks p) ≡ times p b names
 times-held p b = joined-from (count b) (count-additive b) (blocksOf p) (λ name. name) names
 
 -- a sound name's blocks are the pool's

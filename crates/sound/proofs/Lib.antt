@@ -2,6 +2,7 @@ pub mod Deciding
 pub mod Levels
 pub mod Stretches
 pub mod Leaves
+pub mod Claims
 pub mod Walks
 pub mod Entering
 pub mod Repeating
@@ -13,3 +14,4 @@ pub mod Naming
 pub mod Visits
 pub mod Holders
 pub mod Checks
+pub mod Readings

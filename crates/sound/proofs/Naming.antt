@@ -10,13 +10,13 @@ use lib.Dec.{eqb}
 use borrow.Author.Tests.{eq-eqb, ne-eqb}
 use Rattle.entries.proofs.Totals.{sum-more, sum-all}
 use Rattle.geometry.specs.Layout.{recordSize, kindClosed, qAt}
-use Rattle.geometry.specs.Limits.{names}
+use Rattle.geometry.specs.Limits.{names, mostAlphabet}
 use Rattle.geometry.specs.declared.Record.{Record}
 use Rattle.pool.specs.Blocks.{entries}
 use Rattle.pool.specs.Bytes.{shares, recordAt}
 use Rattle.pool.specs.Names.{recordOf, blocksOf}
 use Rattle.pool.specs.Shares.{promisedShares}
-use Rattle.pool.specs.Sound.{OpenName}
+use Rattle.pool.specs.Sound.{SoundBelow, OpenName}
 use Rattle.pool.specs.Trees.{blocksAt, ownMarks}
 use Rattle.pool.specs.Words.{WordAt}
 use Rattle.pool.proofs.Written.{closed-record}
@@ -25,25 +25,35 @@ use Rattle.sequence.specs.Alphabet.{sumBelow}
 use Rattle.shape.specs.Fill.{rootLeast}
 use Rattle.shape.specs.Sizes.{oneToAByte, most}
 use Rattle.sound.specs.Maps.{Walked}
-use Rattle.sound.specs.Parts.{Zeros, OpenRecord, SoundTree, SoundName}
+use Rattle.sound.specs.Parts.{Zeros, OpenRecord, MarksFit, WalkedTree, SoundName}
 use Rattle.sound.specs.Says.{Says}
 use Rattle.sound.proofs.Deciding.{denied, say-same, say-equal}
+use Rattle.sound.proofs.Walking.{below-of, under-of, fit-of}
 use Rattle.sound.proofs.Walks.{walk-no, walk-same, walk-test, walk-found}
 
 -- The tree of an open name.
 module _ (p : List ℕ) (name : ℕ) where
   abbrev Root : Type 0
-  Root = SoundTree p (recordOf p name .alphabet) (rootLeast (recordOf p name .height)) (recordOf p name .height) (recordOf p name .root)
+  Root = WalkedTree p (recordOf p name .alphabet) (rootLeast (recordOf p name .height)) (recordOf p name .height) (recordOf p name .root)
 
   abbrev rootBlocks : List ℕ
   rootBlocks = blocksAt p (recordOf p name .height) (recordOf p name .root)
 
   root-of : OpenName p name → Root
-  root-of o = (o .root, o .below)
+  root-of o = (o .root, under-of p (recordOf p name .alphabet) (recordOf p name .height) (recordOf p name .root) (o .below))
+
+  abbrev Fit : Type 0
+  Fit = MarksFit p (recordOf p name .alphabet) (recordOf p name .height) (recordOf p name .root)
+
+  below : Root → Fit → SoundBelow p (recordOf p name .alphabet) (recordOf p name .height) (recordOf p name .root)
+  below tree fit = below-of p (recordOf p name .alphabet) (recordOf p name .height) (recordOf p name .root) (tree .1) fit
+
+  root-fit : OpenName p name → Fit
+  root-fit o = fit-of p (recordOf p name .alphabet) (recordOf p name .height) (recordOf p name .root) (o .below)
 
   -- the length is what the root says of itself
-  whole : OpenRecord p name → Root → recordOf p name .length ≡ ownMarks p (recordOf p name .height) (recordOf p name .root) → OpenName p name
-  whole o tree long = record {
+  whole : OpenRecord p name → Root → Fit → recordOf p name .length ≡ ownMarks p (recordOf p name .height) (recordOf p name .root) → OpenName p name
+  whole o tree fit long = record {
     kind = o .kind;
     alphabetLeast = o .alphabetLeast;
     alphabetMost = o .alphabetMost;
@@ -52,9 +62,9 @@ module _ (p : List ℕ) (name : ℕ) where
     zeroByte = o .zeroByte;
     spare = o .spare;
     root = tree .0;
-    below = tree .1;
+    below = below tree fit;
     length = long
-        ∙ own-marks p (recordOf p name .alphabet) (rootLeast (recordOf p name .height)) (recordOf p name .height) (recordOf p name .root) (tree .0) (tree .1);
+        ∙ own-marks p (recordOf p name .alphabet) (rootLeast (recordOf p name .height)) (recordOf p name .height) (recordOf p name .root) (tree .0) (below tree fit);
     room = o .room;
   }
 
@@ -82,20 +92,24 @@ module _ (p : List ℕ) (name : ℕ) where
     refused : r ≡ false → Walked false (OpenName p name) tag rootBlocks map after
     refused failed = walk-no tag rootBlocks map after (λ o new. denied (walked .says) failed (root-of o, new))
 
-    measured : (own : ℕ) → OpenRecord p name → r ≡ true → own ≡ ownMarks p (recordOf p name .height) (recordOf p name .root)
-        → Walked (eqb own (recordOf p name .length)) (OpenName p name) tag rootBlocks map after
-    measured own o passed summed =
-        walk-same tag rootBlocks map after (λ g. whole o (g .0) (g .1)) (λ n. (root-of n, long-of n))
-        (walk-test tag rootBlocks map after passed walked (say-equal own (recordOf p name .length)) (λ tree e. sym e ∙ summed) (λ tree e. summed ∙ sym e))
+    module _ (f : Bool) (fitted : Says f Fit) where
+      unfit : f ≡ false → Walked false (OpenName p name) tag rootBlocks map after
+      unfit failed = walk-no tag rootBlocks map after (λ o new. denied fitted failed (root-fit o))
+
+      measured : (own : ℕ) → OpenRecord p name → r ≡ true → f ≡ true → own ≡ ownMarks p (recordOf p name .height) (recordOf p name .root)
+          → Walked (eqb own (recordOf p name .length)) (OpenName p name) tag rootBlocks map after
+      measured own o passed fit summed =
+          walk-same tag rootBlocks map after (λ g. whole o (g .0) (fitted .sound fit) (g .1)) (λ n. (root-of n, long-of n))
+          (walk-test tag rootBlocks map after passed walked (say-equal own (recordOf p name .length)) (λ tree e. sym e ∙ summed) (λ tree e. summed ∙ sym e))
 
 -- the same as the code has it: the record in a local
 module _ (p : List ℕ) (name tag fewest : ℕ) (found : Record) (is : found ≡ recordOf p name) (few : fewest ≡ rootLeast (found .height))
-    (map after : List ℕ) (r : Bool) (walked : Walked r (SoundTree p (found .alphabet) fewest (found .height) (found .root)) tag (blocksAt p (found .height) (found .root)) map after) where
+    (map after : List ℕ) (r : Bool) (walked : Walked r (WalkedTree p (found .alphabet) fewest (found .height) (found .root)) tag (blocksAt p (found .height) (found .root)) map after) where
   pub root-inside : r ≡ true → found .root < shares p
   root-inside passed = walk-found tag passed walked .0 .inside
 
-  pub root-fits : r ≡ true → entries p (found .root) ≤ most oneToAByte (found .height)
-  root-fits passed = walk-found tag passed walked .0 .fits
+  pub root-size : r ≡ true → entries p (found .root) ≤ most oneToAByte (found .height)
+  root-size passed = walk-found tag passed walked .0 .fits
 
   there : Walked r (Root p name) tag (rootBlocks p name) map after
   there = rw (few, is) at walked
@@ -103,9 +117,19 @@ module _ (p : List ℕ) (name tag fewest : ℕ) (found : Record) (is : found ≡
   pub root-refused : r ≡ false → Walked false (OpenName p name) tag (blocksAt p (found .height) (found .root)) map after
   root-refused failed = rw is (refused p name tag map after r there failed)
 
-  pub root-measured : (s : Bool) (own : ℕ) → Says s (OpenRecord p name) → s ≡ true → r ≡ true → own ≡ ownMarks p (found .height) (found .root)
-      → Walked (eqb own (found .length)) (OpenName p name) tag (blocksAt p (found .height) (found .root)) map after
-  root-measured s own says opened passed summed = rw is (measured p name tag map after r there own (says .sound opened) passed (rw is at summed))
+  module _ (f : Bool) (fitted : Says f (MarksFit p (found .alphabet) (found .height) (found .root))) where
+    pub root-unfit : f ≡ false → Walked false (OpenName p name) tag (blocksAt p (found .height) (found .root)) map after
+    root-unfit failed = rw is (unfit p name tag map after r there f (rw is at fitted) failed)
+
+    pub root-measured : (s : Bool) (own : ℕ) → Says s (OpenRecord p name) → s ≡ true → r ≡ true → f ≡ true → own ≡ ownMarks p (found .height) (found .root)
+        → Walked (eqb own (found .length)) (OpenName p name) tag (blocksAt p (found .height) (found .root)) map after
+    root-measured s own says opened passed fit summed =
+        rw is (measured p name tag map after r there f (rw is at fitted) own (says .sound opened) passed fit (rw is at summed))
+
+-- what the walk asks of the alphabet
+pub alphabet-fits : (p : List ℕ) (name : ℕ) (found : Record) (s : Bool) → found ≡ recordOf p name → Says s (OpenRecord p name) → s ≡ true
+    → found .alphabet ≤ mostAlphabet
+alphabet-fits p name found s is says opened = rw is (says .sound opened .alphabetMost)
 
 -- A name, by its kind.
 module _ (p : List ℕ) (name : ℕ) (found : Record) (is : found ≡ recordOf p name) where

@@ -1,5 +1,5 @@
--- The walk over a tree. A leaf is entered, and its marks are tested; a branch is entered, and its children are walked in turn. Of a child the
--- tree is walked first, and its summary is what the entry must repeat: for a sound tree that is the same as telling its marks.
+-- The walk over a tree. A leaf is entered, and that is all; a branch is entered, and its children are walked in turn. Of a child the tree is
+-- walked first, and then its entry is tested, with the marks of a leaf: for a sound tree, to repeat its summary is to tell its marks.
 -- Assumes nothing.
 use mathlib.Core.Bool.{Bool, true, false}
 use mathlib.Core.List.{List, [], _∷_}
@@ -10,21 +10,34 @@ use native.Mathlib.Nat.{eq-or-lt-of-le}
 use native.Mathlib.Numerals.{add-one}
 use native.Mathlib.Omega.{arith}
 use Rattle.entries.specs.Summaries.{Is}
-use Rattle.geometry.specs.Layout.{mostLeaf, mostBranch}
-use Rattle.pool.specs.Blocks.{entries, leafMarks, link, children}
+use Rattle.geometry.specs.Layout.{mostBranch}
+use Rattle.pool.specs.Blocks.{entries, link, children}
 use Rattle.pool.specs.Bytes.{shares, from}
-use Rattle.pool.specs.Sound.{SoundBlock, Tells}
+use Rattle.pool.specs.Sound.{SoundBlock, SoundBelow, Tells}
 use Rattle.pool.specs.Trees.{blocksAt}
 use Rattle.pool.proofs.Summaries.{tells-own, own-told}
-use Rattle.sequence.specs.Alphabet.{AllBelow}
 use Rattle.shape.specs.Nested.{joined}
 use Rattle.shape.specs.Sizes.{oneToAByte, least, most}
 use Rattle.sound.specs.Maps.{Walked}
-use Rattle.sound.specs.Parts.{SoundTree, SoundChildren, Repeats}
+use Rattle.sound.specs.Parts.{MarksFit, SoundUnder, WalkedTree, SoundChildren, Matches}
 use Rattle.sound.specs.Says.{Says}
 use Rattle.sound.proofs.Deciding.{say-yes, denied}
-use Rattle.sound.proofs.Levels.{most-leaf, most-branch}
+use Rattle.sound.proofs.Levels.{most-branch}
 use Rattle.sound.proofs.Walks.{walk-no, walk-same, walk-both, walk-fails, walk-test, walk-found}
+
+-- What stands below a block: the blocks that were walked, and the marks of a leaf.
+module _ (p : List ℕ) (alphabet : ℕ) where
+  pub below-of : (h b : ℕ) → SoundUnder p alphabet h b → MarksFit p alphabet h b → SoundBelow p alphabet h b
+  below-of zero b under fit = fit
+  below-of (suc h) b under fit = under
+
+  pub under-of : (h b : ℕ) → SoundBelow p alphabet h b → SoundUnder p alphabet h b
+  under-of zero b below = tt
+  under-of (suc h) b below = below
+
+  pub fit-of : (h b : ℕ) → SoundBelow p alphabet h b → MarksFit p alphabet h b
+  fit-of zero b below = below
+  fit-of (suc h) b below = tt
 
 -- The measures: 5 for each level, and between two levels the children that are left.
 pub children-below : (h many t : ℕ) → 5 * h ≡ t → (h ≡ 0 → ⊥) → 0 + many ≤ mostBranch → 5 * (h - 1) + many + 1 < t
@@ -44,30 +57,25 @@ module _ (p : List ℕ) (alphabet tag : ℕ) where
     pub block-inside : r ≡ true → b < shares p
     block-inside passed = walk-found tag passed walked .inside
 
-    pub leaf-fits : (many : ℕ) → r ≡ true → Is (entries p b) many → h ≡ 0 → many ≤ mostLeaf
-    leaf-fits many passed size leaf = omega (arith, walk-found tag passed walked .fits, size .is, most-leaf h leaf)
-
     pub branch-fits : (many : ℕ) → r ≡ true → Is (entries p b) many → (h ≡ 0 → ⊥) → 0 + many ≤ mostBranch
     branch-fits many passed size branch = omega (arith, walk-found tag passed walked .fits, size .is, most-branch h branch)
 
   pub block-refused : (fewest h b : ℕ) (map after : List ℕ) (r : Bool) → Walked r (SoundBlock p fewest h b) tag (b ∷ []) map after → r ≡ false
-      → Walked false (SoundTree p alphabet fewest h b) tag (blocksAt p h b) map after
+      → Walked false (WalkedTree p alphabet fewest h b) tag (blocksAt p h b) map after
   block-refused fewest zero b map after r walked failed = walk-fails tag (b ∷ []) [] map after after failed walked
   block-refused fewest (suc h) b map after r walked failed =
       walk-fails tag (b ∷ []) (joined (blocksAt p h) (children p b)) map after after failed walked
 
-  pub leaf-walked : (fewest h b : ℕ) (map after : List ℕ) (r s : Bool) → Walked r (SoundBlock p fewest h b) tag (b ∷ []) map after → r ≡ true → h ≡ 0
-      → Says s (AllBelow alphabet (leafMarks p b))
-      → Walked s (SoundTree p alphabet fewest h b) tag (blocksAt p h b) map after
-  leaf-walked fewest zero b map after r s walked passed leaf marks =
-      walk-test tag (b ∷ []) map after passed walked marks (λ block below. below) (λ block below. below)
-  leaf-walked fewest (suc h) b map after r s walked passed leaf marks = absurd (omega arith)
+  pub leaf-walked : (fewest h b : ℕ) (map after : List ℕ) (r : Bool) → Walked r (SoundBlock p fewest h b) tag (b ∷ []) map after → r ≡ true → h ≡ 0
+      → Walked true (WalkedTree p alphabet fewest h b) tag (blocksAt p h b) map after
+  leaf-walked fewest zero b map after r walked passed leaf = walk-test tag (b ∷ []) map after passed walked (say-yes tt) (λ block u. u) (λ block u. u)
+  leaf-walked fewest (suc h) b map after r walked passed leaf = absurd (omega arith)
 
   pub branch-walked : (fewest h b many : ℕ) (map entered after : List ℕ) (r s : Bool) → Walked r (SoundBlock p fewest h b) tag (b ∷ []) map entered → r ≡ true
       → (h ≡ 0 → ⊥)
       → Is (entries p b) many
       → Walked s (SoundChildren p alphabet (h - 1) b 0 many) tag (joined (blocksAt p (h - 1)) (from (link p b) 0 many)) entered after
-      → Walked s (SoundTree p alphabet fewest h b) tag (blocksAt p h b) map after
+      → Walked s (WalkedTree p alphabet fewest h b) tag (blocksAt p h b) map after
   branch-walked fewest zero b many map entered after r s walked passed branch size below = absurd (branch refl)
   branch-walked fewest (suc h) b many map entered after r s walked passed branch size below =
       let down : suc h - 1 ≡ h = omega arith in
@@ -86,25 +94,37 @@ module _ (p : List ℕ) (alphabet tag : ℕ) where
 
   module _ (h b k : ℕ) where
     abbrev Tree : Type 0
-    Tree = SoundTree p alphabet (least oneToAByte h) h (link p b k)
+    Tree = WalkedTree p alphabet (least oneToAByte h) h (link p b k)
+
+    -- what its entry tells, and what a test of the entry shows
+    abbrev Told : Type 0
+    Told = MarksFit p alphabet h (link p b k) × Tells p h b k
+
+    abbrev Shown : Type 0
+    Shown = Matches p alphabet h b k (link p b k)
 
     -- child k and those behind it
-    first-child : (left : ℕ) → (Tree × (Tells p h b k × SoundChildren p alphabet h b (suc k) left)) → SoundChildren p alphabet h b k (suc left)
+    first-child : (left : ℕ) → (Tree × (Told × SoundChildren p alphabet h b (suc k) left)) → SoundChildren p alphabet h b k (suc left)
     first-child left g j low high =
-        ⊎-elim (λ (e : k ≡ j). rw (sym e) (g .0 .0, g .0 .1, g .1 .0)) (λ (l : k < j). g .1 .1 j (omega arith) (omega arith)) (eq-or-lt-of-le low)
+        ⊎-elim (λ (e : k ≡ j). rw (sym e) (g .0 .0, below-of p alphabet h (link p b k) (g .0 .1) (g .1 .0 .0), g .1 .0 .1))
+        (λ (l : k < j). g .1 .1 j (omega arith) (omega arith))
+        (eq-or-lt-of-le low)
 
-    child-first : (left : ℕ) → SoundChildren p alphabet h b k (suc left) → Tree × (Tells p h b k × SoundChildren p alphabet h b (suc k) left)
+    child-first : (left : ℕ) → SoundChildren p alphabet h b k (suc left) → Tree × (Told × SoundChildren p alphabet h b (suc k) left)
     child-first left g =
         let here = g k (omega arith) (omega arith) in
-        ((here .0, here .1), (here .2, λ j low high. g j (omega arith) (omega arith)))
+        ((here .0, under-of p alphabet h (link p b k) (here .1)), ((fit-of p alphabet h (link p b k) (here .1), here .2), λ j low high. g j (omega arith) (omega arith)))
 
-    tree-tells : Tree → Repeats p h b k (link p b k) → Tells p h b k
-    tree-tells tree same = tells-own p alphabet (least oneToAByte h) h b k (tree .0) (tree .1) (same .marks) (same .counts)
+    tree-tells : Tree → Shown → Told
+    tree-tells tree shown = (
+      shown .fit,
+      tells-own p alphabet (least oneToAByte h) h b k (tree .0) (below-of p alphabet h (link p b k) (tree .1) (shown .fit)) (shown .same .marks) (shown .same .counts),
+    )
 
-    tells-tree : Tree → Tells p h b k → Repeats p h b k (link p b k)
+    tells-tree : Tree → Told → Shown
     tells-tree tree told =
-        let own = own-told p alphabet (least oneToAByte h) h b k (tree .0) (tree .1) told in
-        record { marks = own .0; counts = own .1 }
+        let own = own-told p alphabet (least oneToAByte h) h b k (tree .0) (below-of p alphabet h (link p b k) (tree .1) (told .0)) (told .1) in
+        record { fit = told .0; same = record { marks = own .0; counts = own .1 } }
 
     module _ (map after : List ℕ) (r : Bool) (walked : Walked r Tree tag (blocksAt p h (link p b k)) map after) where
       refused : (left : ℕ) → r ≡ false → Walked false (SoundChildren p alphabet h b k (suc left)) tag (joined (blocksAt p h) (from (link p b) k (suc left))) map after
@@ -113,7 +133,7 @@ module _ (p : List ℕ) (alphabet tag : ℕ) where
           walk-same tag (joined (blocksAt p h) (from (link p b) k (suc left))) map after (first-child left) (child-first left)
           (walk-fails tag (blocksAt p h (link p b k)) (joined (blocksAt p h) (from (link p b) (suc k) left)) map after after failed walked)
 
-      module _ (s : Bool) (tested : Says s (Repeats p h b k (link p b k))) (passed : r ≡ true) where
+      module _ (s : Bool) (tested : Says s Shown) (passed : r ≡ true) where
         told-wrong : (left : ℕ) → s ≡ false → Walked false (SoundChildren p alphabet h b k (suc left)) tag (joined (blocksAt p h) (from (link p b) k (suc left))) map after
         told-wrong left failed =
             walk-no tag (joined (blocksAt p h) (from (link p b) k (suc left))) map after
@@ -131,12 +151,15 @@ module _ (p : List ℕ) (alphabet tag : ℕ) where
             rest)
 
   -- the same as the code has it: the child's block and the least entries in locals, and so many children left, not 0
-  module _ (h b k child fewest : ℕ) (map after : List ℕ) (r : Bool) (walked : Walked r (SoundTree p alphabet fewest h child) tag (blocksAt p h child) map after) where
+  module _ (h b k child fewest : ℕ) (map after : List ℕ) (r : Bool) (walked : Walked r (WalkedTree p alphabet fewest h child) tag (blocksAt p h child) map after) where
     pub child-inside : r ≡ true → child < shares p
     child-inside passed = walk-found tag passed walked .0 .inside
 
     pub child-fits : r ≡ true → entries p child ≤ most oneToAByte h
     child-fits passed = walk-found tag passed walked .0 .fits
+
+    pub child-enough : fewest ≡ least oneToAByte h → r ≡ true → least oneToAByte h ≤ entries p child
+    child-enough few passed = omega (arith, walk-found tag passed walked .0 .enough)
 
     module _ (linked : Is (link p b k) child) (few : fewest ≡ least oneToAByte h) where
       there : Walked r (Tree h b k) tag (blocksAt p h (link p b k)) map after
@@ -147,8 +170,8 @@ module _ (p : List ℕ) (alphabet tag : ℕ) where
       child-refused zero some failed = absurd (some refl)
       child-refused (suc left) some failed = refused h b k map after r there left failed
 
-      module _ (s : Bool) (tested : Says s (Repeats p h b k child)) (passed : r ≡ true) where
-        same : Says s (Repeats p h b k (link p b k))
+      module _ (s : Bool) (tested : Says s (Matches p alphabet h b k child)) (passed : r ≡ true) where
+        same : Says s (Shown h b k)
         same = rw (linked .is) at tested
 
         pub entry-refused : (left : ℕ) → (left ≡ 0 → ⊥) → s ≡ false

@@ -4,11 +4,13 @@ use mathlib.Core.Bool.{Bool, true}
 use mathlib.Core.List.{List}
 use mathlib.Core.Logic.{_⊎_}
 use mathlib.Core.Path.{_≡_}
-use Prim.Native.Nat.{ℕ, _+_, _*_, _≤_, _<_}
+use Prim.Native.Nat.{ℕ, zero, suc, _+_, _*_, _≤_, _<_}
 use Rattle.geometry.specs.Layout as Layout
 use Rattle.geometry.specs.Limits.{leastAlphabet, mostAlphabet, marksPerShare}
+use Rattle.sequence.specs.Alphabet.{AllBelow}
+use Rattle.sequence.specs.Definition1.{count}
 use Rattle.shape.specs.Sizes.{oneToAByte, least}
-use Rattle.pool.specs.Blocks.{link, marksBelow, countBelow}
+use Rattle.pool.specs.Blocks.{leafMarks, link, marksBelow, countBelow}
 use Rattle.pool.specs.Bytes.{byte, recordAt}
 use Rattle.pool.specs.Names.{recordOf}
 use Rattle.pool.specs.Sound.{SoundBlock, SoundBelow, Tells, ClosedName, OpenName, Sound}
@@ -20,9 +22,19 @@ use Rattle.sound.specs.Says.{Says}
 abbrev pub Zeros : List ℕ → ℕ → ℕ → Type 0
 Zeros p at many = (j : ℕ) → j < many → byte p (at + j) ≡ 0
 
--- a tree: its block, and all that stands below it
-abbrev pub SoundTree : List ℕ → ℕ → ℕ → ℕ → ℕ → Type 0
-SoundTree p alphabet fewest h b = SoundBlock p fewest h b × SoundBelow p alphabet h b
+-- a leaf's marks are below the alphabet's size; a branch has none
+abbrev pub MarksFit : List ℕ → ℕ → ℕ → ℕ → Type 0
+MarksFit p alphabet zero b = AllBelow alphabet (leafMarks p b)
+MarksFit p alphabet (suc h) b = Unit {0}
+
+-- what stands below a block, the marks of a leaf aside
+abbrev pub SoundUnder : List ℕ → ℕ → ℕ → ℕ → Type 0
+SoundUnder p alphabet zero b = Unit {0}
+SoundUnder p alphabet (suc h) b = SoundBelow p alphabet (suc h) b
+
+-- a tree that was walked: its block, and what stands below it
+abbrev pub WalkedTree : List ℕ → ℕ → ℕ → ℕ → ℕ → Type 0
+WalkedTree p alphabet fewest h b = SoundBlock p fewest h b × SoundUnder p alphabet h b
 
 -- child k of a branch, at level h, and what its entry says of it
 abbrev pub SoundChild : List ℕ → ℕ → ℕ → ℕ → ℕ → Type 0
@@ -37,6 +49,15 @@ SoundChildren p alphabet h b k left = (j : ℕ) → k ≤ j → j < k + left →
 pub record Repeats (p : List ℕ) (h b k child : ℕ) : Type 0 where
   pub marks : marksBelow p b k ≡ ownMarks p h child
   pub counts : (c : ℕ) → c < mostAlphabet → countBelow p b k c ≡ ownCount p h child c
+
+-- the same, and of a leaf its marks are below the alphabet's size
+pub record Matches (p : List ℕ) (alphabet h b k child : ℕ) : Type 0 where
+  pub fit : MarksFit p alphabet h child
+  pub same : Repeats p h b k child
+
+-- no mark c is told of a leaf, or as many as it has, and c is below the alphabet's size
+abbrev pub Claim : List ℕ → ℕ → ℕ → ℕ → ℕ → Type 0
+Claim p leaf alphabet c told = (told ≡ 0) ⊎ ((told ≡ count c (leafMarks p leaf)) × (c < alphabet))
 
 -- an open name's record, its tree aside
 pub record OpenRecord (p : List ℕ) (name : ℕ) : Type 0 where

@@ -1,7 +1,7 @@
 // One block of a tree by itself: whether it may be entered, and a leaf's marks.
 ghost use mathlib.Core.Path.{_≡_};
 ghost use Prim.Native.Nat.{_+_, _≤_, _<_};
-ghost use lib.ListN.{length, getD, set};
+ghost use lib.ListN.{length};
 ghost use Rattle.geometry.specs.Layout.{mostLeaf};
 ghost use Rattle.geometry.specs.Limits.{directorySize, longestPool};
 ghost use Rattle.pool.specs.Blocks.{entries, leafMarks};
@@ -11,6 +11,7 @@ ghost use Rattle.sequence.specs.Alphabet.{AllBelow};
 ghost use Rattle.shape.specs.Fill.{rootLeast};
 ghost use Rattle.shape.specs.Sizes.{oneToAByte, least, most};
 ghost use Rattle.sound.specs.Maps.{Walked};
+ghost use Rattle.sound.specs.Parts.{MarksFit};
 ghost use Rattle.sound.specs.Says.{Says};
 ghost use mathlib.Core.List.{[], _∷_};
 use entries::entry_count;
@@ -79,7 +80,7 @@ pub fn enter(
 }
 
 // Whether all marks of a leaf are below the alphabet's size.
-pub fn marks_below(pool: &[u8], b: usize, many: usize, alphabet: u8) -> bool
+fn marks_below(pool: &[u8], b: usize, many: usize, alphabet: u8) -> bool
     requires { ⌜ (b < shares (now pool)) × (many ≡ entries (now pool) b) × (many ≤ mostLeaf) ⌝ }
     ensures { λ r. ⌜ Says r (AllBelow alphabet (leafMarks (now (pool .entry)) b)) ⌝ }
 {
@@ -92,4 +93,16 @@ pub fn marks_below(pool: &[u8], b: usize, many: usize, alphabet: u8) -> bool
         i += 1;
     }
     true
+}
+
+// The same for a root, which is a leaf at level 0 alone.
+pub fn root_fits(pool: &[u8], level: usize, b: usize, alphabet: u8) -> bool
+    requires { ⌜ (b < shares (now pool)) × (entries (now pool) b ≤ most oneToAByte level) ⌝ }
+    ensures { λ r. ⌜ Says r (MarksFit (now (pool .entry)) alphabet level b) ⌝ }
+{
+    if level != 0 {
+        return true;
+    }
+    let many = entry_count(pool, b);
+    marks_below(pool, b, many, alphabet)
 }

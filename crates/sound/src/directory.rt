@@ -1,10 +1,9 @@
 // The directory's bytes: the header, and stretches that must be 0.
 ghost use Prim.Native.Nat.{_+_, _≤_, _<_};
 ghost use lib.ListN.{length};
-ghost use Rattle.geometry.specs.Limits.{directorySize, names};
-ghost use Rattle.pool.specs.Names.{recordOf};
+ghost use Rattle.geometry.specs.Limits.{directorySize};
 ghost use Rattle.pool.specs.Sound.{SoundHeader};
-ghost use Rattle.sound.specs.Parts.{Zeros, OpenRecord};
+ghost use Rattle.sound.specs.Parts.{Zeros};
 ghost use Rattle.sound.specs.Says.{Says};
 use geometry::Record;
 

@@ -1,5 +1,4 @@
 // The check that every call makes: whether any bytes are a sound pool, and which name holds each block.
-ghost use lib.ListN.{length};
 ghost use Rattle.pool.specs.Sound.{LengthAllowed};
 ghost use Rattle.sound.specs.Parts.{Checked};
 ghost use Rattle.sound.specs.Says.{Says};

@@ -11,6 +11,7 @@ ghost use Rattle.sound.specs.Maps.{Walked, WalkedNames};
 ghost use Rattle.sound.specs.Parts.{OpenRecord, SoundName};
 ghost use Rattle.sound.specs.Says.{Says};
 use crate::blocks::least_of_root;
+use crate::blocks::root_fits;
 use crate::directory::all_zero;
 use crate::summaries::own_marks;
 use crate::walk::check_block;
@@ -69,6 +70,9 @@ fn check_open(pool: &[u8], name: usize, found: Record, map: &mut [u8; Record::MO
     let fewest = least_of_root(height);
     let holder = name as u8 + 1;
     if !check_block(pool, height, root, fewest, found.alphabet, map, holder) {
+        return false;
+    }
+    if !root_fits(pool, height, root, found.alphabet) {
         return false;
     }
     own_marks(pool, height, root) == found.length as usize

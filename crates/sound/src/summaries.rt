@@ -1,14 +1,13 @@
 // What a block's own bytes say of its marks, and whether its parent's entry repeats it.
 ghost use mathlib.Core.Path.{_≡_};
 ghost use Prim.Native.Nat.{_≤_, _<_};
-ghost use Rattle.geometry.specs.Layout.{mostBranch};
+ghost use Rattle.geometry.specs.Layout.{mostLeaf, leastBranch, mostBranch};
 ghost use Rattle.geometry.specs.Limits.{mostAlphabet};
-ghost use Rattle.pool.specs.Blocks.{entries, marksBelow, countBelow};
+ghost use Rattle.pool.specs.Blocks.{entries};
 ghost use Rattle.pool.specs.Bytes.{shares};
 ghost use Rattle.pool.specs.Trees.{ownMarks, ownCount};
-ghost use Rattle.sequence.specs.Alphabet.{sumBelow};
-ghost use Rattle.shape.specs.Sizes.{oneToAByte, most};
-ghost use Rattle.sound.specs.Parts.{Repeats};
+ghost use Rattle.shape.specs.Sizes.{oneToAByte, least, most};
+ghost use Rattle.sound.specs.Parts.{Repeats, Matches, Claim};
 ghost use Rattle.sound.specs.Says.{Says};
 use entries::count_below;
 use entries::entry_count;
@@ -16,19 +15,74 @@ use entries::marks_below;
 use geometry::Record;
 use sequence::count_in;
 
-// Whether entry k of a branch is the summary of the block `child`, of a level.
-pub fn repeats(pool: &[u8], level: usize, b: usize, k: usize, child: usize) -> bool
+// Whether entry k of a branch is the summary of the block `child`, of a level; and of a leaf whether its marks are below the alphabet's size.
+pub fn repeats(pool: &[u8], level: usize, b: usize, k: usize, child: usize, alphabet: u8) -> bool
     requires parent { ⌜ (b < shares (now pool)) × (k < mostBranch) ⌝ }
-    requires child { ⌜ (child < shares (now pool)) × (entries (now pool) child ≤ most oneToAByte level) ⌝ }
-    ensures { λ r. ⌜ Says r (Repeats (now (pool .entry)) level b k child) ⌝ }
+    requires child { ⌜ (child < shares (now pool)) × (alphabet ≤ mostAlphabet) ⌝ }
+    requires size { ⌜ (least oneToAByte level ≤ entries (now pool) child) × (entries (now pool) child ≤ most oneToAByte level) ⌝ }
+    ensures { λ r. ⌜ Says r (Matches (now (pool .entry)) alphabet level b k child) ⌝ }
 {
+    if level == 0 {
+        return leaf_repeats(pool, b, k, child, alphabet);
+    }
+    branch_repeats(pool, b, k, child)
+}
+
+// A leaf by the counts that the entry claims: only symbols that it says are there are counted. If those add up to the leaf's size,
+// there are no others.
+fn leaf_repeats(pool: &[u8], b: usize, k: usize, leaf: usize, alphabet: u8) -> bool
+    requires parent { ⌜ (b < shares (now pool)) × (k < mostBranch) ⌝ }
+    requires leaf { ⌜ (leaf < shares (now pool)) × (entries (now pool) leaf ≤ mostLeaf) × (alphabet ≤ mostAlphabet) ⌝ }
+    ensures { λ r. ⌜ Says r (Matches (now (pool .entry)) alphabet 0 b k leaf) ⌝ }
+{
+    let many = entry_count(pool, leaf);
     let all_told = marks_below(pool, b, k);
-    let all_own = own_marks(pool, level, child);
+    if all_told != many {
+        return false;
+    }
+    let mut sum = 0;
+    let mut c = 0;
+    while c < Record::MOST_ALPHABET {
+        let told = count_below(pool, b, k, c);
+        if !claim_holds(pool, leaf, many, c, told, alphabet) {
+            return false;
+        }
+        sum += told;
+        c += 1;
+    }
+    sum == many
+}
+
+// Whether a leaf has as many marks c as told, and c is below the alphabet's size; nothing is counted where none are told.
+fn claim_holds(pool: &[u8], leaf: usize, many: usize, c: usize, told: usize, alphabet: u8) -> bool
+    requires { ⌜ (leaf < shares (now pool)) × (many ≡ entries (now pool) leaf) × (many ≤ mostLeaf) × (c < mostAlphabet) ⌝ }
+    ensures { λ r. ⌜ Says r (Claim (now (pool .entry)) leaf alphabet c told) ⌝ }
+{
+    if told == 0 {
+        return true;
+    }
+    if c >= alphabet as usize {
+        return false;
+    }
+    let at = Record::DIRECTORY_SIZE + Record::BLOCK_SIZE * leaf;
+    let own = count_in(pool, at, at + many, c as u8);
+    told == own
+}
+
+// A branch, by adding up its entries.
+fn branch_repeats(pool: &[u8], b: usize, k: usize, child: usize) -> bool
+    requires parent { ⌜ (b < shares (now pool)) × (k < mostBranch) ⌝ }
+    requires child { ⌜ (child < shares (now pool)) × (leastBranch ≤ entries (now pool) child) × (entries (now pool) child ≤ mostBranch) ⌝ }
+    ensures { λ r. ⌜ Says r (Repeats (now (pool .entry)) 1 b k child) ⌝ }
+{
+    let many = entry_count(pool, child);
+    let all_told = marks_below(pool, b, k);
+    let all_own = own_marks(pool, 1, child);
     let mut same = all_told == all_own;
     let mut c = 0;
     while c < Record::MOST_ALPHABET {
         let told = count_below(pool, b, k, c);
-        let own = own_count(pool, level, child, c);
+        let own = branch_count(pool, child, many, c);
         if told != own {
             same = false;
         }
@@ -55,21 +109,17 @@ pub fn own_marks(pool: &[u8], level: usize, b: usize) -> usize
     sum
 }
 
-// How many of them are c.
-fn own_count(pool: &[u8], level: usize, b: usize, c: usize) -> usize
-    requires { ⌜ (b < shares (now pool)) × (entries (now pool) b ≤ most oneToAByte level) × (c < mostAlphabet) ⌝ }
-    ensures { λ r. ⌜ r ≡ ownCount (now (pool .entry)) level b c ⌝ }
+// How many of a branch's marks it says are c: two entries, and perhaps a third.
+fn branch_count(pool: &[u8], b: usize, many: usize, c: usize) -> usize
+    requires inside { ⌜ (b < shares (now pool)) × (c < mostAlphabet) ⌝ }
+    requires size { ⌜ (many ≡ entries (now pool) b) × (leastBranch ≤ many) × (many ≤ mostBranch) ⌝ }
+    ensures { λ r. ⌜ r ≡ ownCount (now (pool .entry)) 1 b c ⌝ }
 {
-    let many = entry_count(pool, b);
-    if level == 0 {
-        let at = Record::DIRECTORY_SIZE + Record::BLOCK_SIZE * b;
-        return count_in(pool, at, at + many, c as u8);
+    let first = count_below(pool, b, 0, c);
+    let second = count_below(pool, b, 1, c);
+    if many == Record::LEAST_BRANCH {
+        return first + second;
     }
-    let mut sum = 0;
-    let mut k = 0;
-    while k < many {
-        sum += count_below(pool, b, k, c);
-        k += 1;
-    }
-    sum
+    let third = count_below(pool, b, 2, c);
+    first + second + third
 }

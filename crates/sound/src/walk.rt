@@ -1,24 +1,23 @@
 // The walk over a tree: checking a block and checking a branch's children call each other.
-ghost use mathlib.Core.Path.{_≡_};
 ghost use Prim.Native.Nat.{_+_, _≤_, _<_};
 ghost use lib.ListN.{length};
 ghost use Rattle.geometry.specs.Layout.{mostBranch};
-ghost use Rattle.geometry.specs.Limits.{directorySize, longestPool};
+ghost use Rattle.geometry.specs.Limits.{directorySize, longestPool, mostAlphabet};
 ghost use Rattle.pool.specs.Blocks.{link as linkOf};
 ghost use Rattle.pool.specs.Bytes.{shares, from};
 ghost use Rattle.pool.specs.Trees.{blocksAt};
 ghost use Rattle.shape.specs.Nested.{joined};
 ghost use Rattle.sound.specs.Maps.{Walked};
-ghost use Rattle.sound.specs.Parts.{SoundTree, SoundChildren};
+ghost use Rattle.sound.specs.Parts.{WalkedTree, SoundChildren};
 use crate::blocks::enter;
 use crate::blocks::least_entries;
-use crate::blocks::marks_below;
 use crate::summaries::repeats;
 use entries::entry_count;
 use entries::link;
 use geometry::Record;
 
 // Whether the tree at a block is sound and none of its blocks was met before. They are then marked as the holder's.
+// The marks of a block that is a leaf itself are left to the caller, who may have a parent's entry to go by.
 pub fn check_block(
     pool: &[u8],
     level: usize,
@@ -28,15 +27,15 @@ pub fn check_block(
     map: &mut [u8; Record::MOST_SHARES],
     holder: u8,
 ) -> bool
-    requires { ⌜ (directorySize ≤ length (now pool)) × (length (now pool) ≤ longestPool) ⌝ }
-    ensures { λ r. ⌜ Walked r (SoundTree (now (pool .entry)) alphabet fewest level b) holder (blocksAt (now (pool .entry)) level b) (now (map .entry)) (now (map .exit)) ⌝ }
+    requires { ⌜ (directorySize ≤ length (now pool)) × (length (now pool) ≤ longestPool) × (alphabet ≤ mostAlphabet) ⌝ }
+    ensures { λ r. ⌜ Walked r (WalkedTree (now (pool .entry)) alphabet fewest level b) holder (blocksAt (now (pool .entry)) level b) (now (map .entry)) (now (map .exit)) ⌝ }
 {
     if !enter(pool, level, b, fewest, map, holder) {
         return false;
     }
     let many = entry_count(pool, b);
     if level == 0 {
-        return marks_below(pool, b, many, alphabet);
+        return true;
     }
     check_children(pool, level - 1, b, 0, many, alphabet, map, holder)
 }
@@ -52,7 +51,7 @@ fn check_children(
     map: &mut [u8; Record::MOST_SHARES],
     holder: u8,
 ) -> bool
-    requires size { ⌜ (directorySize ≤ length (now pool)) × (length (now pool) ≤ longestPool) ⌝ }
+    requires size { ⌜ (directorySize ≤ length (now pool)) × (length (now pool) ≤ longestPool) × (alphabet ≤ mostAlphabet) ⌝ }
     requires branch { ⌜ (b < shares (now pool)) × (k + left ≤ mostBranch) ⌝ }
     ensures { λ r. ⌜ Walked r (SoundChildren (now (pool .entry)) alphabet level b k left) holder (joined (blocksAt (now (pool .entry)) level) (from (linkOf (now (pool .entry)) b) k left)) (now (map .entry)) (now (map .exit)) ⌝ }
 {
@@ -71,7 +70,7 @@ fn check_children(
     ) {
         return false;
     }
-    if !repeats(pool, level, b, k, child) {
+    if !repeats(pool, level, b, k, child, alphabet) {
         return false;
     }
     check_children(pool, level, b, k + 1, left - 1, alphabet, map, holder)

@@ -1,8 +1,8 @@
--- `sound::names::check_open` meets its contract: refused by its record, by its tree, or by its length alone.
+-- `sound::names::check_open` meets its contract: refused by its record, by its tree, by the marks of a root that is a leaf, or by its length alone.
 -- Assumes nothing.
 use borrow.Author.Needs.{needs}
 use borrow.Author.Tests.{not-true, not-false}
-use Rattle.sound.proofs.Naming.{record-refused, root-inside, root-fits, root-refused, root-measured}
+use Rattle.sound.proofs.Naming.{alphabet-fits, record-refused, root-inside, root-size, root-refused, root-unfit, root-measured}
 use Rattle.sound.proofs.names.check_open.Statement.{statement}
 use Rattle.sound.proofs.names.check_open.Tie as tie
 
@@ -28,19 +28,25 @@ add-holder : tie.Need-add-holder
 add-holder c = search needs
 
 check-block-requires : tie.Need-check-block-requires
-check-block-requires c κs = search needs
+check-block-requires c κs = (search needs, search needs, search (alphabet-fits, not-false))
 
 returns-2 : tie.Need-returns-2
 returns-2 c = search (root-refused, not-true)
 
+root-fits-requires : tie.Need-root-fits-requires
+root-fits-requires c κs = (search (root-inside, not-false), search (root-size, not-false))
+
+returns-3 : tie.Need-returns-3
+returns-3 c = search (root-unfit, not-true)
+
 own-marks-requires : tie.Need-own-marks-requires
-own-marks-requires c κs = (search (root-inside, not-false), search (root-fits, not-false))
+own-marks-requires c κs = (search (root-inside, not-false), search (root-size, not-false))
 
 cast-result : tie.Need-cast-result
 cast-result c = search needs
 
-returns-3 : tie.Need-returns-3
-returns-3 c = search (root-measured, not-false)
+returns-4 : tie.Need-returns-4
+returns-4 c = search (root-measured, not-false)
 
 pub check-open-spec : {M : Type 1} → statement M
 check-open-spec =
@@ -55,6 +61,8 @@ check-open-spec =
     add-holder
     check-block-requires
     returns-2
+    root-fits-requires
+    returns-3
     own-marks-requires
     cast-result
-    returns-3)
+    returns-4)

@@ -1,60 +1,22 @@
--- `sound::summaries::repeats` meets its contract. The loop's invariant: `same` says exactly whether the entry is right as to the marks and the
--- symbols passed.
+-- `sound::summaries::repeats` meets its contract, at level 0 by a leaf's claims and above by a branch's entries.
 -- Assumes nothing.
 use borrow.Author.Needs.{needs}
-use mathlib.Core.Logic.{⊎-elim}
-use Prim.Native.Nat.{_-_, _≤_}
-use Rattle.geometry.specs.Limits.{mostAlphabet}
-use Rattle.sound.specs.Says.{Says}
-use Rattle.sound.proofs.Repeating.{RepeatsTo, repeat-marks, repeat-more, repeat-not, repeat-all}
+use Rattle.entries.proofs.Summaries.{leaf-size, branch-size}
+use Rattle.sound.proofs.Repeating.{branch-enough, match-leaf, match-branch}
 use Rattle.sound.proofs.summaries.repeats.Statement.{statement}
 use Rattle.sound.proofs.summaries.repeats.Tie as tie
 
-abbrev Inv-loop : tie.InvT-loop
-Inv-loop pool level b k child all-told all-own same₀ c₀ same c = (c ≤ mostAlphabet) × Says same (RepeatsTo pool level b k child c)
+leaf-repeats-requires : tie.Need-leaf-repeats-requires
+leaf-repeats-requires c κs = (search needs, (search needs, search leaf-size, search needs))
 
-abbrev μ-loop : tie.MeasureT-loop
-μ-loop pool level b k child all-told all-own same₀ c₀ same c = mostAlphabet - c
+returns : tie.Need-returns
+returns c = search match-leaf
 
-marks-below-requires : tie.Need-marks-below-requires Inv-loop μ-loop
-marks-below-requires c κs = search needs
+branch-repeats-requires : tie.Need-branch-repeats-requires
+branch-repeats-requires c κs = (search needs, (search needs, search branch-enough, search branch-size))
 
-own-marks-requires : tie.Need-own-marks-requires Inv-loop μ-loop
-own-marks-requires c κs = search needs
-
-loop-holds : tie.Need-loop-holds Inv-loop μ-loop
-loop-holds c = (search needs, search repeat-marks)
-
-count-below-requires : tie.Need-count-below-requires Inv-loop μ-loop
-count-below-requires c κs = search needs
-
-own-count-requires : tie.Need-own-count-requires Inv-loop μ-loop
-own-count-requires c κs = search needs
-
-add-c : tie.Need-add-c Inv-loop μ-loop
-add-c c = search needs
-
-loop-less : tie.Need-loop-less Inv-loop μ-loop
-loop-less c = search needs
-
-loop-again : tie.Need-loop-again Inv-loop μ-loop
-loop-again c = (search needs, ⊎-elim (λ w. search repeat-not) (λ w. search repeat-more) (c .if1 .came))
-
-returns : tie.Need-returns Inv-loop μ-loop
-returns c = search repeat-all
+returns-2 : tie.Need-returns-2
+returns-2 c = search match-branch
 
 pub repeats-spec : {M : Type 1} → statement M
-repeats-spec =
-    tie.close
-    (tie.spec
-    Inv-loop
-    μ-loop
-    marks-below-requires
-    own-marks-requires
-    loop-holds
-    count-below-requires
-    own-count-requires
-    add-c
-    loop-less
-    loop-again
-    returns)
+repeats-spec = tie.close (tie.spec leaf-repeats-requires returns branch-repeats-requires returns-2)

@@ -3,7 +3,7 @@
 -- Assumes nothing.
 use borrow.Author.Needs.{needs}
 use borrow.Author.Tests.{not-true, not-false}
-use Rattle.sound.proofs.Walking.{children-below, block-below, fewer-children, block-inside, leaf-fits, branch-fits, block-refused, leaf-walked, branch-walked, no-children, child-inside, child-fits, child-refused, entry-refused, children-walked}
+use Rattle.sound.proofs.Walking.{children-below, block-below, fewer-children, block-inside, branch-fits, block-refused, leaf-walked, branch-walked, no-children, child-inside, child-fits, child-enough, child-refused, entry-refused, children-walked}
 use Prim.Native.Nat.{ℕ, _+_, _*_, _<_}
 use borrow.Fn.Kinds.{In}
 use borrow.Fn.PlainCycle.{Measures, is, falls, and}
@@ -17,7 +17,6 @@ use Rattle.entries.proofs.entry_count.Reads as entry-count-reads
 use Rattle.entries.proofs.link.Reads as link-reads
 use Rattle.sound.proofs.blocks.enter.Reads as enter-reads
 use Rattle.sound.proofs.blocks.least_entries.Reads as least-entries-reads
-use Rattle.sound.proofs.blocks.marks_below.Reads as marks-below-reads
 use Rattle.sound.proofs.summaries.repeats.Reads as repeats-reads
 use Rattle.sound.proofs.walk.+check_block+check_children.{statement}
 use Rattle.sound.proofs.walk.+check_block+check_children.Tie.{close}
@@ -59,8 +58,6 @@ block-told t = (
   enter-reads.Learnt,
   entry-count-reads.Asked,
   entry-count-reads.Learnt,
-  marks-below-reads.Asked,
-  marks-below-reads.Learnt,
   check-children-below t,
   check-children.Post,
 )
@@ -80,16 +77,13 @@ children-told t = (
 )
 
 check-block-enter-requires : (t : ℕ) → check-block-lts.Need-enter-requires (block-told t) (check-block-at t) check-block.Post
-check-block-enter-requires t c κs = c .before .before .pre .1
+check-block-enter-requires t c κs = search needs
 
 check-block-returns : (t : ℕ) → check-block-lts.Need-returns (block-told t) (check-block-at t) check-block.Post
 check-block-returns t c = search (block-refused, not-true)
 
 check-block-entry-count-requires : (t : ℕ) → check-block-lts.Need-entry-count-requires (block-told t) (check-block-at t) check-block.Post
 check-block-entry-count-requires t c κs = search (block-inside, not-false)
-
-check-block-marks-below-requires : (t : ℕ) → check-block-lts.Need-marks-below-requires (block-told t) (check-block-at t) check-block.Post
-check-block-marks-below-requires t c κs = (search (block-inside, not-false), search needs, search (leaf-fits, not-false))
 
 check-block-returns-2 : (t : ℕ) → check-block-lts.Need-returns-2 (block-told t) (check-block-at t) check-block.Post
 check-block-returns-2 t c = search (leaf-walked, not-false)
@@ -122,7 +116,10 @@ check-children-returns-2 : (t : ℕ) → check-children-lts.Need-returns-2 (chil
 check-children-returns-2 t c = search (child-refused, not-true)
 
 check-children-repeats-requires : (t : ℕ) → check-children-lts.Need-repeats-requires (children-told t) (check-children-at t) check-children.Post
-check-children-repeats-requires t c κs = (search needs, (search (child-inside, not-false), search (child-fits, not-false)))
+check-children-repeats-requires t c κs = (
+  search needs,
+  ((search (child-inside, not-false), search needs), (search (child-enough, not-false), search (child-fits, not-false))),
+)
 
 check-children-returns-3 : (t : ℕ) → check-children-lts.Need-returns-3 (children-told t) (check-children-at t) check-children.Post
 check-children-returns-3 t c = search (entry-refused, not-true, not-false)
@@ -146,7 +143,6 @@ pub +check-block+check-children-spec : {M : Type 1} → statement M
     (check-block-enter-requires t)
     (check-block-returns t)
     (check-block-entry-count-requires t)
-    (check-block-marks-below-requires t)
     (check-block-returns-2 t)
     (check-block-sub-check-children t)
     (check-block-check-children-requires t)

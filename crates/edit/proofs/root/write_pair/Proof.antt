@@ -1,0 +1,26 @@
+-- `edit::root::write_pair` meets its contract: an empty branch gets one entry and then the other.
+-- Assumes nothing.
+use Rattle.edit.proofs.RootGrowths.{pair-written}
+use borrow.Author.Needs.{needs}
+use Rattle.edit.proofs.root.write_pair.Statement.{statement}
+use Rattle.edit.proofs.root.write_pair.Tie as tie
+
+empty-branch-requires : tie.Need-empty-branch-requires
+empty-branch-requires c κs = search needs
+
+put-entry-requires : tie.Need-put-entry-requires
+put-entry-requires c κs = search needs
+
+put-entry-requires-2 : tie.Need-put-entry-requires-2
+put-entry-requires-2 c κs = search needs
+
+same-length : tie.Need-same-length
+same-length c = search needs
+
+returns : tie.Need-returns
+returns c = search pair-written
+
+pub write-pair-spec : {M : Type 1} → statement M
+write-pair-spec =
+    tie.close
+    (tie.spec empty-branch-requires put-entry-requires put-entry-requires-2 same-length returns)
