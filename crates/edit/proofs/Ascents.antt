@@ -34,9 +34,9 @@ use Rattle.edit.specs.Entries.{TrueEntry, SoundChild}
 use Rattle.edit.specs.Grafts.{TakenUp}
 use Rattle.edit.specs.Inserts.{roots, InsertReady, Inserted}
 use Rattle.edit.specs.Maps.{isFree}
-use Rattle.edit.specs.Seats.{Seated}
+use Rattle.entries.specs.Seats.{Seated}
 use Rattle.edit.specs.declared.Grown.{Grown}
-use Rattle.edit.specs.declared.seat.Seat.{Seat}
+use Rattle.entries.specs.declared.Seat.{Seat}
 use Rattle.edit.proofs.Descents.{child-takes, before-total, around, child-splits, child-ready, child-path}
 use Rattle.edit.proofs.GoodEntries.{GoodEntry, shapeIn, blocksIn, below-good, shape-entries, blocks-entries}
 use Rattle.edit.proofs.KeptLists.{KeptList, kept-list}

@@ -29,8 +29,8 @@ use Rattle.pool.specs.Bytes.{shares}
 use Rattle.pool.specs.Sound.{SoundBlock}
 use Rattle.pool.specs.Trees.{shapeAt, blocksAt, entered, pathAt}
 use Rattle.edit.specs.Inserts.{InsertReady}
-use Rattle.edit.specs.Seats.{Seated}
-use Rattle.edit.specs.declared.seat.Seat.{Seat}
+use Rattle.entries.specs.Seats.{Seated}
+use Rattle.entries.specs.declared.Seat.{Seat}
 
 -- what the choice of a child needs
 pub branch-ready : (p m : List ℕ) (h b i c holder : ℕ) → InsertReady p m (suc h) b i c holder → (b < shares p) × (leastBranch ≤ entries p b) × (entries p b ≤ mostBranch)

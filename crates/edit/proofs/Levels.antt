@@ -10,9 +10,9 @@ use Rattle.pool.specs.Bytes.{shares}
 use Rattle.entries.specs.Summaries.{Is}
 use Rattle.edit.specs.Grafts.{TakeUpReady, TakenUp}
 use Rattle.edit.specs.Inserts.{InsertReady, Inserted}
-use Rattle.edit.specs.Seats.{Seated}
+use Rattle.entries.specs.Seats.{Seated}
 use Rattle.edit.specs.declared.Grown.{Grown}
-use Rattle.edit.specs.declared.seat.Seat.{Seat}
+use Rattle.entries.specs.declared.Seat.{Seat}
 use Rattle.edit.proofs.Ascents.{inserted-above}
 use Rattle.edit.proofs.Descents.{branch-ready, before-least, child-ready}
 use Rattle.edit.proofs.Siblings.{take-up-ready}

@@ -8,7 +8,6 @@ pub mod Grafts
 pub mod TakeUps
 pub mod Pieces
 pub mod GoodEntries
-pub mod Seats
 pub mod Descents
 pub mod Siblings
 pub mod KeptLists

@@ -39,9 +39,9 @@ use Rattle.edit.specs.Entries.{SoundChild}
 use Rattle.edit.specs.Grafts.{TakeUpReady}
 use Rattle.edit.specs.Inserts.{roots, leastAfter, InsertReady, Inserted}
 use Rattle.edit.specs.Maps.{isFree, freeIn}
-use Rattle.edit.specs.Seats.{Seated}
+use Rattle.entries.specs.Seats.{Seated}
 use Rattle.edit.specs.declared.Grown.{Grown}
-use Rattle.edit.specs.declared.seat.Seat.{Seat}
+use Rattle.entries.specs.declared.Seat.{Seat}
 use Rattle.edit.proofs.Descents.{child-takes, before-total, child-short, around, child-splits, child-blocks, child-ready}
 use Rattle.edit.proofs.Maps.{entered-falls}
 use Rattle.edit.proofs.Pieces.{room-step}

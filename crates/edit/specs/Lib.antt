@@ -2,6 +2,5 @@ pub mod Maps
 pub mod Inserts
 pub mod Entries
 pub mod Grafts
-pub mod Seats
 pub mod Roots
 pub mod Trees

@@ -4,3 +4,4 @@ pub mod Summaries
 pub mod Written
 pub mod Neighbours
 pub mod Telling
+pub mod Seats

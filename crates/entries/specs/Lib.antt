@@ -1,2 +1,3 @@
 pub mod Summaries
 pub mod Entries
+pub mod Seats

@@ -1,10 +1,14 @@
-// The entries of a branch, one at a time, and the summary of a block, which is what its parent's entry says of it.
+// The entries of a branch, one at a time, which child takes a place, and the summary of a block, which is what its parent's entry says
+// of it.
 use geometry::Record;
 
+mod choice;
 mod reads;
 mod stores;
 mod sums;
 
+pub use choice::seat_by;
+pub use choice::words_before;
 pub use reads::count_below;
 pub use reads::entry_count;
 pub use reads::link;
@@ -20,4 +24,10 @@ pub use sums::summary_of_leaf;
 pub struct Summary {
     pub marks: u16,
     pub counts: [u16; Record::MOST_ALPHABET],
+}
+
+// A child's number, and what the measured words of the children before it add up to.
+pub struct Seat {
+    pub k: usize,
+    pub before: usize,
 }

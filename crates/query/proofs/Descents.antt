@@ -28,9 +28,9 @@ use Rattle.shape.specs.Nested.{flat, marksIn}
 use Rattle.shape.specs.Paths.{path}
 use Rattle.query.specs.Answers.{FoundIn}
 use Rattle.query.specs.Good.{Good}
-use Rattle.query.specs.Seats.{Seated}
+use Rattle.entries.specs.Seats.{Seated}
 use Rattle.query.specs.declared.Found.{Found}
-use Rattle.query.specs.declared.seat.Seat.{Seat}
+use Rattle.entries.specs.declared.Seat.{Seat}
 use Rattle.query.proofs.Levels.{at-leaf, at-branch}
 use Rattle.query.proofs.Steps.{seated-range, told-marks, told-count, path-step, access-step, rank-step, select-step}
 

@@ -1,4 +1,3 @@
-pub mod Seats
 pub mod Levels
 pub mod Trees
 pub mod Steps

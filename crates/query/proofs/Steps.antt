@@ -23,8 +23,8 @@ use Rattle.shape.specs.Paths.{path}
 use Rattle.shape.proofs.Seat.{seat-takes, rest-takes, chosen-takes}
 use Rattle.shape.proofs.Steps.{takes-range, access-takes, rank-takes, select-takes}
 use Rattle.query.specs.Good.{Good}
-use Rattle.query.specs.Seats.{Seated}
-use Rattle.query.specs.declared.seat.Seat.{Seat}
+use Rattle.entries.specs.Seats.{Seated}
+use Rattle.entries.specs.declared.Seat.{Seat}
 
 -- By any measure that the entries tell.
 module _ (p : List ℕ) (h b : ℕ) (μ : List ℕ → ℕ) (additive : Additive μ) (m : ℕ → ℕ) (told : (k : ℕ) → k < entries p b → m k ≡ μ (flat h (shapeAt p h (link p b k))))

@@ -8,12 +8,12 @@ ghost use Rattle.shape.specs.Nested.{flat, marksIn};
 ghost use Rattle.query.specs.Answers.{FoundIn};
 ghost use Rattle.query.specs.Good.{Good};
 use crate::Found;
-use crate::seat::seat_by;
-use crate::seat::words_before;
 use blocks::leaf::count_marks;
 use blocks::leaf::find_mark;
 use blocks::leaf::mark_at;
 use entries::link;
+use entries::seat_by;
+use entries::words_before;
 use geometry::Record;
 
 // The mark at place i below block b of a level.

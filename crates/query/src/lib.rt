@@ -1,7 +1,6 @@
 // Queries of a tree in the pool: they go down from the root, one block a level.
 mod by_name;
 mod descent;
-mod seat;
 
 pub use by_name::access;
 pub use by_name::length;

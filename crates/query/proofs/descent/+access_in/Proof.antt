@@ -7,9 +7,9 @@ use native.Mathlib.Omega.{arith}
 use borrow.Fn.Kinds.{In}
 use borrow.Fn.PlainCycle.{Measures, is, falls, and}
 use Rattle.query.proofs.Descents.{leaf-at, leaf-place, leaf-found, branch-at, child-good, place-left, found-below, found-few}
-use Rattle.query.proofs.Seats.{seated-before}
+use Rattle.entries.proofs.Seats.{seated-before}
 use Rattle.blocks.proofs.leaf.mark_at.Reads as mark-at-reads
-use Rattle.query.proofs.seat.seat_by.Reads as seat-by-reads
+use Rattle.entries.proofs.seat_by.Reads as seat-by-reads
 use Rattle.entries.proofs.link.Reads as link-reads
 use Rattle.query.proofs.descent.access_in.Reads as access-in
 use Rattle.query.proofs.descent.access_in.Kinds as access-in-kinds

@@ -7,10 +7,10 @@ use native.Mathlib.Omega.{arith}
 use borrow.Fn.Kinds.{In}
 use borrow.Fn.PlainCycle.{Measures, is, falls, and}
 use Rattle.query.proofs.Descents.{leaf-at, leaf-place, leaf-ranked, branch-at, child-good, place-left, ranked-below, ranked-most}
-use Rattle.query.proofs.Seats.{seated-before}
+use Rattle.entries.proofs.Seats.{seated-before}
 use Rattle.blocks.proofs.leaf.count_marks.Reads as count-marks-reads
-use Rattle.query.proofs.seat.seat_by.Reads as seat-by-reads
-use Rattle.query.proofs.seat.words_before.Reads as words-before-reads
+use Rattle.entries.proofs.seat_by.Reads as seat-by-reads
+use Rattle.entries.proofs.words_before.Reads as words-before-reads
 use Rattle.entries.proofs.link.Reads as link-reads
 use Rattle.query.proofs.descent.rank_in.Reads as rank-in
 use Rattle.query.proofs.descent.rank_in.Kinds as rank-in-kinds

@@ -7,10 +7,10 @@ use native.Mathlib.Omega.{arith}
 use borrow.Fn.Kinds.{In}
 use borrow.Fn.PlainCycle.{Measures, is, falls, and}
 use Rattle.query.proofs.Descents.{leaf-at, leaf-selected, branch-at, branch-few, child-good, number-left, selected-below, selected-most}
-use Rattle.query.proofs.Seats.{seated-before}
+use Rattle.entries.proofs.Seats.{seated-before}
 use Rattle.blocks.proofs.leaf.find_mark.Reads as find-mark-reads
-use Rattle.query.proofs.seat.seat_by.Reads as seat-by-reads
-use Rattle.query.proofs.seat.words_before.Reads as words-before-reads
+use Rattle.entries.proofs.seat_by.Reads as seat-by-reads
+use Rattle.entries.proofs.words_before.Reads as words-before-reads
 use Rattle.entries.proofs.link.Reads as link-reads
 use Rattle.query.proofs.descent.select_in.Reads as select-in
 use Rattle.query.proofs.descent.select_in.Kinds as select-in-kinds

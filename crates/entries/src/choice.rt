@@ -5,17 +5,12 @@ ghost use Rattle.geometry.specs.Layout.{leastBranch, mostBranch, entrySize, wor
 ghost use Rattle.pool.specs.Blocks.{entries};
 ghost use Rattle.pool.specs.Bytes.{shares};
 ghost use Rattle.sequence.specs.Alphabet.{sumBelow};
 ghost use Rattle.entries.specs.Summaries.{Is, wordsAt};
-ghost use Rattle.query.specs.Seats.{Seated};
-use entries::entry_count;
+ghost use Rattle.entries.specs.Seats.{Seated};
+use crate::Seat;
+use crate::reads::entry_count;
 use geometry::Record;
 use pool::word;
-
-// A child's number, and what the measured words of the children before it add up to.
-pub struct Seat {
-    pub k: usize,
-    pub before: usize,
-}
 
 // The word that entry k has at an offset.
 fn entry_word(pool: &[u8], b: usize, k: usize, offset: usize) -> usize

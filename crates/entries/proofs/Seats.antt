@@ -5,8 +5,8 @@ use Prim.Native.Nat.{ℕ, zero, suc, _+_, _≤_, _<_}
 use native.Mathlib.Omega.{arith}
 use Rattle.geometry.specs.Layout.{leastBranch, mostBranch}
 use Rattle.sequence.specs.Alphabet.{sumBelow}
-use Rattle.query.specs.Seats.{Seated}
-use Rattle.query.specs.declared.seat.Seat.{Seat}
+use Rattle.entries.specs.Seats.{Seated}
+use Rattle.entries.specs.declared.Seat.{Seat}
 
 -- what stands before each child
 module _ (m : ℕ → ℕ) (first second : ℕ) (one : first ≡ m 0) (two : second ≡ m 1) where

@@ -1,16 +1,16 @@
--- `query::seat::seat_by` meets its contract: the laws of the choice at each end of the tests, where the limit is both words' sum or i itself.
+-- `entries::choice::seat_by` meets its contract: the laws of the choice at each end of the tests, where the limit is both words' sum or i itself.
 -- Assumes nothing.
 use borrow.Author.Needs.{needs}
 use mathlib.Core.Path.{_≡_}
 use mathlib.Core.Logic.{⊎-elim}
 use Prim.Native.Nat.{ℕ, _+_, _≤_}
 use native.Mathlib.Omega.{arith}
 use Rattle.entries.specs.Summaries.{wordsAt}
 use Rattle.geometry.specs.Layout.{mostBranch}
 use Rattle.pool.specs.Blocks.{entries}
-use Rattle.query.proofs.Seats.{seat-first, seat-second, seat-third}
-use Rattle.query.proofs.seat.seat_by.Statement.{statement}
-use Rattle.query.proofs.seat.seat_by.Tie as tie
+use Rattle.entries.proofs.Seats.{seat-first, seat-second, seat-third}
+use Rattle.entries.proofs.choice.seat_by.Statement.{statement}
+use Rattle.entries.proofs.choice.seat_by.Tie as tie
 
 entry-word-requires : tie.Need-entry-word-requires
 entry-word-requires c κs = search needs

@@ -1,14 +1,14 @@
--- `query::seat::words_before` meets its contract: what stands before each of three children.
+-- `entries::choice::words_before` meets its contract: what stands before each of three children.
 -- Assumes nothing.
 use borrow.Author.Needs.{needs}
 use mathlib.Core.Logic.{⊎-elim}
 use mathlib.Core.Path.{_≡_, _∙_}
 use Prim.Native.Nat.{ℕ}
 use native.Mathlib.Omega.{arith}
 use Rattle.entries.specs.Summaries.{wordsAt}
-use Rattle.query.proofs.Seats.{before-first, before-second, before-third}
-use Rattle.query.proofs.seat.words_before.Statement.{statement}
-use Rattle.query.proofs.seat.words_before.Tie as tie
+use Rattle.entries.proofs.Seats.{before-first, before-second, before-third}
+use Rattle.entries.proofs.choice.words_before.Statement.{statement}
+use Rattle.entries.proofs.choice.words_before.Tie as tie
 
 entry-word-requires : tie.Need-entry-word-requires
 entry-word-requires c κs = search needs
