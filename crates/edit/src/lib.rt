@@ -4,7 +4,7 @@ mod insert;
 mod leaves;
 mod map;
 mod root;
-mod seat;
+pub mod seat;
 mod tree;
 
 pub use insert::insert_in;

@@ -1,0 +1,11 @@
+pub mod Frees
+pub mod Levels
+pub mod KeptTrees
+pub mod NodeMends
+pub mod PairMends
+pub mod PairWrites
+pub mod ShortChildren
+pub mod KeptParts
+pub mod Settles
+pub mod ChildDeletes
+pub mod LevelDeletes
