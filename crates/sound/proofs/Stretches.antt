@@ -3,7 +3,7 @@
 use mathlib.Core.Bool.{Bool, true, false}
 use mathlib.Core.List.{List}
 use mathlib.Core.Path.{_≡_}
-use Prim.Native.Nat.{ℕ, _+_, _-_, _≤_, _<_}
+use Prim.Native.Nat.{ℕ, _+_, _-_, _≤_}
 use native.Mathlib.Omega.{arith}
 use borrow.Author.Count.{below-none, below-more}
 use Rattle.geometry.specs.Layout.{layoutNumber, headerSize}
@@ -14,17 +14,19 @@ use Rattle.sound.specs.Says.{Says}
 use Rattle.sound.proofs.Deciding.{say-yes, say-no, say-same}
 
 module _ (p : List ℕ) (at : ℕ) where
-  pub zeros-none : Zeros p at 0
-  zeros-none = below-none (λ j. byte p (at + j) ≡ 0)
+  pub zeros-none : Says true (Zeros p at 0)
+  zeros-none = say-yes (below-none (λ j. byte p (at + j) ≡ 0))
 
-  pub zeros-more : (i : ℕ) → Zeros p at i → byte p (at + i) ≡ 0 → Zeros p at (i + 1)
-  zeros-more i before here = below-more (λ j. byte p (at + j) ≡ 0) i before here
+  module _ (i : ℕ) (clean after : Bool) (before : Says clean (Zeros p at i)) where
+    pub zeros-more : byte p (at + i) ≡ 0 → after ≡ clean → Says after (Zeros p at (i + 1))
+    zeros-more here kept =
+        rw kept (say-same (λ z. below-more (λ j. byte p (at + j) ≡ 0) i z here) (λ z j l. z j (omega arith)) before)
 
-  pub zeros-all : (i many : ℕ) → Zeros p at i → many ≤ i → Says true (Zeros p at many)
-  zeros-all i many zeros end = say-yes (λ j l. zeros j (omega arith))
+    pub zeros-not : (byte p (at + i) ≡ 0 → ⊥) → after ≡ false → Says after (Zeros p at (i + 1))
+    zeros-not other failed = rw failed (say-no (λ z. other (z i (omega arith))))
 
-  pub zeros-not : (i many : ℕ) → i < many → (byte p (at + i) ≡ 0 → ⊥) → Says false (Zeros p at many)
-  zeros-not i many inside other = say-no (λ zeros. other (zeros i inside))
+  pub zeros-all : (i many : ℕ) (clean : Bool) → Says clean (Zeros p at i) → i ≤ many → many ≤ i → Says clean (Zeros p at many)
+  zeros-all i many clean says low end = let e : many ≡ i = omega arith in rw e says
 
 module _ (p : List ℕ) where
   pub other-layout : (byte p 0 ≡ layoutNumber → ⊥) → Says false (SoundHeader p)

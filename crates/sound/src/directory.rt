@@ -7,19 +7,20 @@ ghost use Rattle.sound.specs.Parts.{Zeros};
 ghost use Rattle.sound.specs.Says.{Says};
 use geometry::Record;
 
-// Whether so many bytes from an address on are 0.
+// Whether so many bytes from an address on are 0. No way out of the loop, so that the compiler tests sixteen at once.
 pub fn all_zero(pool: &[u8], at: usize, many: usize) -> bool
     requires { ⌜ at + many ≤ length (now pool) ⌝ }
     ensures { λ r. ⌜ Says r (Zeros (now (pool .entry)) at many) ⌝ }
 {
+    let mut clean = true;
     let mut i = 0;
     while i < many {
         if pool[at + i] != 0 {
-            return false;
+            clean = false;
         }
         i += 1;
     }
-    true
+    clean
 }
 
 // Whether the header says this layout, and nothing else.

@@ -2,7 +2,6 @@
 -- Assumes nothing.
 use borrow.Author.Needs.{needs}
 use borrow.Author.Tests.{not-true, not-false}
-use lib.ListN.{length-replicate}
 use Rattle.sound.proofs.Checks.{zeros-clear, length-refused, long-enough, short-enough, header-refused, over-promised, names-checked}
 use Rattle.sound.proofs.check.Statement.{statement}
 use Rattle.sound.proofs.check.Tie as tie
@@ -32,7 +31,7 @@ check-names-requires : tie.Need-check-names-requires
 check-names-requires c κs = (search (long-enough, not-false), search (short-enough, not-false))
 
 returns-4 : tie.Need-returns-4
-returns-4 c = search (names-checked, length-replicate, zeros-clear, not-false)
+returns-4 c = search (names-checked, zeros-clear, not-false)
 
 pub check-spec : {M : Type 1} → statement M
 check-spec =
