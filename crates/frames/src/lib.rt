@@ -1,0 +1,1 @@
+// One frame executed on a sound pool.

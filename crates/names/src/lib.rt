@@ -1,0 +1,1 @@
+// A name opened, and a name closed.
