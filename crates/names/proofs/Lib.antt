@@ -1,0 +1,2 @@
+pub mod ExactMaps
+pub mod NameChanges
