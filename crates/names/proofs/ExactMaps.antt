@@ -9,7 +9,7 @@ use Prim.Native.Nat.{ℕ, zero, suc, _+_, _-_, _≤_, _<_, _/_}
 use native.Mathlib.Nat.{eq-zero-or-pos}
 use native.Mathlib.Omega.{arith}
 use borrow.Author.Tests.{leb-false, lt-leb}
-use lib.ListN.{length, getD}
+use lib.ListN.{length, getD, List·getD-eq-default}
 use Rattle.geometry.specs.Limits.{names, blockSize, directorySize}
 use Rattle.sequence.specs.Alphabet.{sumBelow}
 use Rattle.sequence.specs.Definition1.{isMark, count, rank, access}
@@ -72,6 +72,12 @@ module _ (m : List ℕ) (b : ℕ) where
   pub same-free : (n : List ℕ) → getD n b 0 ≡ getD m b 0 → isFree n b ≡ isFree m b
   unfolding isFree
   same-free n same = ap (isMark 0) same
+
+  -- a block that isn't free has a byte in the map
+  pub held-has-byte : isFree m b ≡ 0 → b < length m
+  held-has-byte held =
+      ⊎-elim (λ (past : length m - b ≡ 0). absurd (omega (arith, zero-isFree (List·getD-eq-default m 0 (omega arith)))))
+      (λ (inside : 0 < length m - b). omega arith) (eq-zero-or-pos (length m - b))
 
 module _ (p m : List ℕ) (exact : Exact p m) where
   -- a block that is free in the map is held by no name

@@ -15,7 +15,7 @@ use Rattle.sequence.specs.Definition1.{count}
 use Rattle.sequence.proofs.Items.{all-map}
 use Rattle.protocol.specs.State.{Part}
 use Rattle.shape.specs.Trees.{Tree}
-use Rattle.pool.specs.Bytes.{byte, recordAt, blockAt}
+use Rattle.pool.specs.Bytes.{byte, recordAt}
 use Rattle.pool.specs.Changes.{Only, SameBlock}
 use Rattle.pool.specs.Meaning.{meaningOf}
 use Rattle.pool.specs.Names.{recordOf, blocksOf, heldBlocks}
@@ -23,6 +23,7 @@ use Rattle.pool.specs.Records.{PutRecord}
 use Rattle.pool.specs.Shares.{unpromisedShares}
 use Rattle.pool.specs.Sound.{ClosedName, OpenName, Sound}
 use Rattle.pool.specs.Untouched.{SameRecord, Untouched}
+use Rattle.pool.proofs.Changed.{directory-blocks}
 use Rattle.pool.proofs.Distincts.{standing-all}
 use Rattle.pool.proofs.NamesKept.{only-untouched}
 use Rattle.pool.proofs.SoundAfter.{sound-after}
@@ -34,9 +35,6 @@ use Rattle.names.proofs.ExactMaps.{Turns, held-two, name-distinct-after
 module _ (p q r : List ℕ) (name : ℕ) (low : name < names) (These : ℕ → Type 0)
     (own : (b : ℕ) → These b → count b (heldBlocks p) ≤ count b (blocksOf p name)) (only : Only These p q)
     (put : Record) (written : PutRecord name put q r) where
-  block-kept : (b : ℕ) → SameBlock b q r
-  block-kept b j l = written .same .high (blockAt b + j) (omega arith)
-
   record-elsewhere : (y : ℕ) → (y ≡ name → ⊥) → SameRecord y q r
   record-elsewhere y other j l =
       ⊎-elim
@@ -54,7 +52,7 @@ module _ (p q r : List ℕ) (name : ℕ) (low : name < names) (These : ℕ → T
       record {
         long = written .same .long ∙ only .long;
         entry = λ j l. record-elsewhere y other j l ∙ blocks .entry j l;
-        held = all-map (λ b. SameBlock b p q) (λ b. SameBlock b p r) (λ b same j l. block-kept b j l ∙ same j l) (blocksOf p y) (blocks .held);
+        held = all-map (λ b. SameBlock b p q) (λ b. SameBlock b p r) (λ b same j l. directory-blocks (written .same) (omega arith) b j l ∙ same j l) (blocksOf p y) (blocks .held);
       }
 
   pub header-kept : (j : ℕ) → j < headerSize → byte r j ≡ byte p j
