@@ -13,7 +13,7 @@ use Rattle.geometry.specs.declared.Record.{Record}
 use Rattle.sequence.specs.Definition1.{count}
 use Rattle.sequence.proofs.Counts.{count-one}
 use Rattle.protocol.specs.State.{opened}
-use Rattle.shape.specs.Trees.{Tree, emptyT}
+use Rattle.shape.specs.Trees.{emptyT}
 use Rattle.pool.specs.Blocks.{formOf, entries, leafMarks}
 use Rattle.pool.specs.Bytes.{shares, blockAt}
 use Rattle.pool.specs.Names.{recordOf, blocksOf, heldBlocks}
@@ -29,7 +29,7 @@ use Rattle.edit.specs.Roots.{Emptied}
 use Rattle.edit.proofs.Maps.{taken-long, taken-blocks, taken-entered}
 use Rattle.names.specs.Updates.{OpenReady, Updated}
 use Rattle.names.proofs.ExactMaps.{zeros-are-free, zero-count, entered-turns}
-use Rattle.names.proofs.NameChanges.{others-untouched, header-kept, pool-long, updated}
+use Rattle.names.proofs.NameChanges.{others-untouched, header-kept, updated}
 
 -- there is a free block, since q shares are promised to none
 pub block-there : (p m : List ℕ) (name alphabet q : ℕ) → OpenReady p m name alphabet q → 1 ≤ freeIn m
