@@ -1,6 +1,6 @@
 -- What frames in order come to: go down the commands, one `Step` at a time.
 -- Assumes nothing.
-use mathlib.Core.Path.{_≡_, refl, sym, ap, ap₂, _∙_}
+use mathlib.Core.Path.{_≡_, refl, ap, ap₂, _∙_}
 use mathlib.Core.List.{List, [], _∷_, _++_}
 use Prim.Native.Nat.{ℕ, suc}
 use lib.ListN.{length}
@@ -11,7 +11,7 @@ use Rattle.pool.specs.Sound.{Sound}
 use Rattle.protocol.specs.Respond.{answersTo, stateAfter}
 use Rattle.protocol.specs.declared.Answer.{Answer}
 use Rattle.protocol.specs.declared.Command.{Command}
-use Rattle.index.specs.Runs.{First, Runs}
+use Rattle.index.specs.Runs.{Runs}
 
 -- the answers are the machine's
 pub runs-answers : (cs : List Command) (p q : List ℕ) (answers : List Answer) → Runs p cs answers q → answers ≡ answersTo trees (meaning p) cs

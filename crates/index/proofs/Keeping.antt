@@ -1,14 +1,12 @@
 -- Frames that don't name a name leave its record, its blocks and all their bytes: what each of them leaves, one after the other.
 -- Assumes nothing.
-use mathlib.Core.Bool.{Bool, true, false, cond}
 use mathlib.Core.Logic.{_≢_}
-use mathlib.Core.Path.{_≡_, refl, sym, ap, _∙_}
+use mathlib.Core.Path.{refl, _∙_}
 use mathlib.Core.List.{List, [], _∷_}
 use Prim.Native.Nat.{ℕ, _<_}
 use Rattle.geometry.specs.Limits.{names}
 use Rattle.sequence.specs.Items.{All}
-use Rattle.sequence.proofs.Items.{all-map}
-use Rattle.frames.specs.Steps.{Step, Kept}
+use Rattle.frames.specs.Steps.{Kept}
 use Rattle.pool.specs.Changes.{SameBlock}
 use Rattle.pool.specs.Names.{blocksOf}
 use Rattle.protocol.specs.declared.Answer.{Answer}

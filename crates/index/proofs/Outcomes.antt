@@ -1,9 +1,9 @@
 -- Two outcomes of the same call: the status is the first reason that applies, so there is one; the answers are the machine's, and so is
 -- what the pool then means.
 -- Assumes nothing.
-use mathlib.Core.Path.{_≡_, refl, sym, ap, _∙_}
+use mathlib.Core.Path.{_≡_, sym, ap, _∙_}
 use mathlib.Core.List.{List, _++_}
-use mathlib.Core.Logic.{_⊎_, _≢_, ⊎-elim, inl, inr}
+use mathlib.Core.Logic.{_⊎_, ⊎-elim, inl, inr}
 use Prim.Native.Nat.{ℕ, _+_, _-_, _%_, _≤_, _<_}
 use native.Mathlib.Nat.{eq-zero-or-pos}
 use native.Mathlib.Omega.{arith}
@@ -39,6 +39,20 @@ length-cases bytes =
     (λ (l : 0 < bytes % blockSize + (shortestPool - bytes) + (bytes - longestPool)). inr (λ a. omega arith))
     (eq-zero-or-pos (bytes % blockSize + (shortestPool - bytes) + (bytes - longestPool)))
 
+-- what a call that nothing refuses has passed
+pub record Passed (p commands room : List ℕ) : Type 0 where
+  pub allowed : LengthAllowed (length p)
+  pub frames : CommandsAllowed (length commands)
+  pub fits : length commands ≤ length room
+  pub sound : Sound p
+
+pub all-passed : (p commands room : List ℕ) (s : ℕ) → s ≡ 0 → StatusOfCall p commands room s → Passed p commands room
+all-passed p commands room s e (inl x) = absurd (omega arith)
+all-passed p commands room s e (inr (inl x)) = absurd (omega arith)
+all-passed p commands room s e (inr (inr (inl x))) = absurd (omega arith)
+all-passed p commands room s e (inr (inr (inr (inl x)))) = absurd (omega arith)
+all-passed p commands room s e (inr (inr (inr (inr x)))) = record { allowed = x .1; frames = x .2; fits = x .3; sound = x .4 }
+
 -- two outcomes of a format are the same, byte for byte
 pub same-format : (p : List ℕ) (r : ℕ) (q : List ℕ) (r′ : ℕ) (q′ : List ℕ) → Formats p r q → Formats p r′ q′ → (r ≡ r′) × (q ≡ q′)
 same-format p r q r′ q′ x y =
@@ -64,14 +78,6 @@ module _ (p commands room : List ℕ) where
   one-status s t x y =
       test-gives-one 101 _ _ (test-gives-one 102 _ _ (test-gives-one 103 _ _ (test-gives-one 104 _ (λ n. n ≡ 0) (λ a b e f. e ∙ sym f)))) s t
       (in-turn s x) (in-turn t y)
-
-  -- a pool that was accepted is sound
-  pub accepted-is-sound : (s : ℕ) → s ≡ 0 → StatusOfCall p commands room s → Sound p
-  accepted-is-sound s e (inl x) = absurd (omega arith)
-  accepted-is-sound s e (inr (inl x)) = absurd (omega arith)
-  accepted-is-sound s e (inr (inr (inl x))) = absurd (omega arith)
-  accepted-is-sound s e (inr (inr (inr (inl x)))) = absurd (omega arith)
-  accepted-is-sound s e (inr (inr (inr (inr x)))) = x .4
 
   module _ (q filled : List ℕ) (count : ℕ) (done : Answered p commands room q filled count) where
     -- the answers to the commands are the machine's

@@ -14,7 +14,7 @@ mod summaries;
 mod walk;
 
 // Whether a pool may have so many bytes.
-fn length_allowed(bytes: usize) -> bool
+pub fn length_allowed(bytes: usize) -> bool
     ensures { λ r. ⌜ Says r (LengthAllowed bytes) ⌝ }
 {
     if bytes % Record::BLOCK_SIZE != 0 {
