@@ -1,0 +1,6 @@
+pub mod Codes
+pub mod Parts
+pub mod Forms
+pub mod Tests
+pub mod Refused
+pub mod Counts

@@ -1,0 +1,23 @@
+use borrow.Author.Needs.{needs}
+use Rattle.frames.proofs.queries.answer_length.Statement.{statement}
+use Rattle.frames.proofs.queries.answer_length.Tie as tie
+
+cast-read-record : tie.Need-cast-read-record
+cast-read-record c = search needs
+
+read-record-requires : tie.Need-read-record-requires
+read-record-requires c κs = ?
+
+cast-with-value : tie.Need-cast-with-value
+cast-with-value c = search needs
+
+with-value-requires : tie.Need-with-value-requires
+with-value-requires c κs = search needs
+
+returns : tie.Need-returns
+returns c = ?
+
+pub answer-length-spec : {M : Type 1} → statement M
+answer-length-spec =
+    tie.close
+    (tie.spec cast-read-record read-record-requires cast-with-value with-value-requires returns)

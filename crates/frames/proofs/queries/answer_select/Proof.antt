@@ -1,0 +1,32 @@
+use borrow.Author.Needs.{needs}
+use Rattle.frames.proofs.queries.answer_select.Statement.{statement}
+use Rattle.frames.proofs.queries.answer_select.Tie as tie
+
+cast-select : tie.Need-cast-select
+cast-select c = search needs
+
+cast-select-2 : tie.Need-cast-select-2
+cast-select-2 c = search needs
+
+select-requires : tie.Need-select-requires
+select-requires c κs = ?
+
+cast-with-value : tie.Need-cast-with-value
+cast-with-value c = ?
+
+with-value-requires : tie.Need-with-value-requires
+with-value-requires c κs = search needs
+
+returns : tie.Need-returns
+returns c = ?
+
+pub answer-select-spec : {M : Type 1} → statement M
+answer-select-spec =
+    tie.close
+    (tie.spec
+    cast-select
+    cast-select-2
+    select-requires
+    cast-with-value
+    with-value-requires
+    returns)
