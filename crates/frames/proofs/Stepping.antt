@@ -1,0 +1,3 @@
+-- x
+-- Assumes nothing.
+use Prim.Native.Nat.{ℕ}
