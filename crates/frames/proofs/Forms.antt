@@ -40,7 +40,7 @@ module _ (c : Command) where
   fourth-set some = rw (ne-eqb (c .fourth) 0 some)
 
   module _ (fourth : c .fourth ≡ 0) (uses : Bool) (is : uses ≡ rowOf (c .code) (rows trees) .usesSymbol) (fits : Bool)
-    (fits-is : fits ≡ (uses || eqb (c .symbol) 0)) where
+      (fits-is : fits ≡ (uses || eqb (c .symbol) 0)) where
     symbol-fits : (rowOf (c .code) (rows trees) .usesSymbol || eqb (c .symbol) 0) ≡ fits
     symbol-fits = sym (rw is at fits-is)
 

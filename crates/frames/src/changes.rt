@@ -4,14 +4,14 @@ ghost use Prim.Native.Nat.{_≤_};
 ghost use Rattle.protocol.specs.Commands.{openCode, closeCode, insertCode, deleteCode};
 ghost use Rattle.frames.specs.Statuses.{statusIn};
 ghost use Rattle.frames.specs.Steps.{Ready, Stepped};
-use crate::pending::close;
-use crate::pending::delete;
-use crate::pending::insert;
-use crate::pending::open;
 use crate::queries::with_value;
+use names::close;
+use names::open;
 use pool::read_record;
 use protocol::Answer;
 use protocol::Command;
+use updates::delete;
+use updates::insert;
 
 // Does what a command says, and answers it.
 pub fn change(pool: &mut [u8], c: Command, map: &mut [u8]) -> Answer

@@ -7,7 +7,6 @@ use protocol::Answer;
 use protocol::Command;
 
 mod changes;
-mod pending;
 mod queries;
 mod statuses;
 

@@ -1,3 +1,6 @@
+-- `frames::execute` meets its contract: a refusal and a query step to the same pool, and a change to the one that it leaves.
+-- Assumes nothing.
+use Rattle.frames.proofs.Stepping.{refused-steps, asked-steps}
 use borrow.Author.Needs.{needs}
 use Rattle.frames.proofs.execute.Statement.{statement}
 use Rattle.frames.proofs.execute.Tie as tie
@@ -9,7 +12,7 @@ same-length : tie.Need-same-length
 same-length c = search needs
 
 returns : tie.Need-returns
-returns c = ?
+returns c = search refused-steps
 
 ask-requires : tie.Need-ask-requires
 ask-requires c κs = search needs
@@ -18,7 +21,7 @@ same-length-2 : tie.Need-same-length-2
 same-length-2 c = search needs
 
 returns-2 : tie.Need-returns-2
-returns-2 c = ?
+returns-2 c = search asked-steps
 
 change-requires : tie.Need-change-requires
 change-requires c κs = search needs

@@ -1,3 +1,6 @@
+-- `frames::changes::change` meets its contract: a code before access that nothing refuses is one of four.
+-- Assumes nothing.
+use Rattle.frames.proofs.Stepping.{last-change}
 use borrow.Author.Needs.{needs}
 use Rattle.frames.proofs.changes.change.Statement.{statement}
 use Rattle.frames.proofs.changes.change.Tie as tie
@@ -39,7 +42,7 @@ returns-3 : tie.Need-returns-3
 returns-3 c = search needs
 
 delete-mark-requires : tie.Need-delete-mark-requires
-delete-mark-requires c κs = ?
+delete-mark-requires c κs = (search needs, search needs, search last-change)
 
 same-length-7 : tie.Need-same-length-7
 same-length-7 c = search needs

@@ -1,3 +1,6 @@
+-- `frames::queries::answer_unpromised` meets its contract.
+-- Assumes nothing.
+use Rattle.frames.proofs.Answering.{unpromised-answers}
 use borrow.Author.Needs.{needs}
 use Rattle.frames.proofs.queries.answer_unpromised.Statement.{statement}
 use Rattle.frames.proofs.queries.answer_unpromised.Tie as tie
@@ -12,7 +15,7 @@ with-value-requires : tie.Need-with-value-requires
 with-value-requires c κs = search needs
 
 returns : tie.Need-returns
-returns c = ?
+returns c = search unpromised-answers
 
 pub answer-unpromised-spec : {M : Type 1} → statement M
 answer-unpromised-spec =

@@ -1,3 +1,6 @@
+-- `frames::queries::ask` meets its contract: a code from access on that nothing refuses is one of five.
+-- Assumes nothing.
+use Rattle.frames.proofs.Answering.{last-code}
 use borrow.Author.Needs.{needs}
 use Rattle.frames.proofs.queries.ask.Statement.{statement}
 use Rattle.frames.proofs.queries.ask.Tie as tie
@@ -27,7 +30,7 @@ returns-4 : tie.Need-returns-4
 returns-4 c = search needs
 
 answer-unpromised-requires : tie.Need-answer-unpromised-requires
-answer-unpromised-requires c κs = ?
+answer-unpromised-requires c κs = (search needs, search last-code)
 
 returns-5 : tie.Need-returns-5
 returns-5 c = search needs

@@ -29,34 +29,34 @@ returns-4 : tie.Need-returns-4
 returns-4 c = search (unpromised-passes, well-formed, not-false)
 
 opening-status-requires : tie.Need-opening-status-requires
-opening-status-requires c κs = 
+opening-status-requires c κs =
     let tested = c .before .before .before .before in
     let first = tested .before .before .before .before in
     let formed =
-        well-formed _ _ _ _
-        (first .before .is-known .ensures)
-        (not-false _ (first .if1 .left))
-        (tested .before .before .before .is-name-allowed .ensures)
-        (not-false _ (tested .before .before .if2 .left))
-        (tested .before .is-unused-zero .ensures)
-        (not-false _ (tested .if3 .left)) in
+    well-formed _ _ _ _
+    (first .before .is-known .ensures)
+    (not-false _ (first .if1 .left))
+    (tested .before .before .before .is-name-allowed .ensures)
+    (not-false _ (tested .before .before .if2 .left))
+    (tested .before .is-unused-zero .ensures)
+    (not-false _ (tested .if3 .left)) in
     record { sound = search needs; formed = formed; code = search needs }
 
 returns-5 : tie.Need-returns-5
 returns-5 c = search needs
 
 named-status-requires : tie.Need-named-status-requires
-named-status-requires c κs = 
+named-status-requires c κs =
     let tested = c .before .before .before .before in
     let first = tested .before .before .before .before in
     let formed =
-        well-formed _ _ _ _
-        (first .before .is-known .ensures)
-        (not-false _ (first .if1 .left))
-        (tested .before .before .before .is-name-allowed .ensures)
-        (not-false _ (tested .before .before .if2 .left))
-        (tested .before .is-unused-zero .ensures)
-        (not-false _ (tested .if3 .left)) in
+    well-formed _ _ _ _
+    (first .before .is-known .ensures)
+    (not-false _ (first .if1 .left))
+    (tested .before .before .before .is-name-allowed .ensures)
+    (not-false _ (tested .before .before .if2 .left))
+    (tested .before .is-unused-zero .ensures)
+    (not-false _ (tested .if3 .left)) in
     record { sound = search needs; formed = formed; opens = search needs; named = search needs }
 
 returns-6 : tie.Need-returns-6
