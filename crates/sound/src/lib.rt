@@ -4,7 +4,6 @@ ghost use Rattle.sound.specs.Parts.{Checked};
 ghost use Rattle.sound.specs.Says.{Says};
 use crate::directory::header_sound;
 use crate::names::check_names;
-use crate::names::promised;
 use geometry::Record;
 
 mod blocks;
@@ -12,6 +11,8 @@ mod directory;
 mod names;
 mod summaries;
 mod walk;
+
+pub use names::promised;
 
 // Whether a pool may have so many bytes.
 pub fn length_allowed(bytes: usize) -> bool
