@@ -2,15 +2,13 @@
 ghost use Rattle.index.specs.Calls.{Formats, CommandsAllowed, Ran};
 ghost use Rattle.index.specs.Frames.{Judged, FramesReady, FramesRun};
 ghost use Rattle.sound.specs.Says.{Says};
+use frames::execute;
 use geometry::Record;
-use pending::execute;
 use pool::clear_bytes;
 use pool::put_byte;
 use protocol::Command;
 use sound::check;
 use sound::length_allowed;
-
-mod pending;
 
 // What a call came to: its status, and the number of frames run.
 pub struct Outcome {
