@@ -1,0 +1,70 @@
+-- Demand 1: "The index takes all pools, command frames and answer room that anyone can lend, always ends, relies on no check of the
+-- caller's. A refused call changes no byte of the three buffers. A refused command changes no byte of the pool and still gets its
+-- answer frame."
+-- Assumes nothing.
+use mathlib.Core.Path.{_≡_}
+use mathlib.Core.List.{List, map}
+use mathlib.Core.Logic.{_⊎_, _≢_}
+use Prim.Native.Nat.{ℕ, _*_}
+use lib.ListN.{length, drop}
+use Rattle.fortran.proofs.mark.Statement as Mark
+use Rattle.fortran.specs.Mark.{markOf}
+use Rattle.geometry.specs.Limits.{frameSize}
+use Rattle.index.specs.Calls.{Formats, Ran}
+use Rattle.index.specs.Runs.{commandsIn}
+use Rattle.index.specs.declared.Outcome.{Outcome}
+use Rattle.pool.specs.Formatted.{formatted}
+use Rattle.pool.specs.Meaning.{meaning}
+use Rattle.protocol.specs.Frames.{bytesOfAnswer}
+use Rattle.protocol.specs.Respond.{refused}
+use Rattle.sequence.specs.Items.{All}
+use Rattle.demands.specs.Accepted.{Frame, framesRun, answerFrames}
+
+-- format, whatever the bytes: 0 and a formatted pool, or 101 and every byte as it was
+pub record FormatTakesAll (p : List ℕ) (status : ℕ) (q : List ℕ) : Type 0 where
+  pub number : (status ≡ 0) ⊎ (status ≡ 101)
+  pub refused : status ≢ 0 → q ≡ p
+  pub accepted : status ≡ 0 → q ≡ formatted (length p)
+
+-- a refused command: its answer frame holds the number, the name and zeros, and no byte of the pool changes
+abbrev pub RefusedCommand : Frame → Type 0
+RefusedCommand f = f .answer .status ≢ 0 → (f .answer ≡ refused (f .answer .status) (f .command)) × (f .after ≡ f .before)
+
+-- an accepted call: each command is run in its turn and has its answer frame, a refused one too; the room behind is as it was
+pub record AcceptedCall (p commands room : List ℕ) (r : Outcome) (q filled : List ℕ) (frames : List Frame) : Type 0 where
+  pub each : map (λ f. f .command) frames ≡ commandsIn commands
+  pub answers : map (λ f. bytesOfAnswer (f .answer)) frames ≡ answerFrames commands filled
+  pub count : r .count ≡ length frames
+  pub whole : length commands ≡ frameSize * r .count
+  pub behind : drop (length commands) filled ≡ drop (length commands) room
+  pub refusals : All RefusedCommand frames
+
+-- run, whatever the bytes: one of five numbers; refused, the lent buffers are as they were (commands are lent to be read alone)
+pub record RunTakesAll (p commands room : List ℕ) (r : Outcome) (q filled : List ℕ) (ran : Ran p commands room r q filled) : Type 0 where
+  pub number : (r .status ≡ 0) ⊎ (r .status ≡ 101) ⊎ (r .status ≡ 102) ⊎ (r .status ≡ 103) ⊎ (r .status ≡ 104)
+  pub refused : r .status ≢ 0 → (r .count ≡ 0) × (q ≡ p) × (filled ≡ room)
+  pub accepted : (zero : r .status ≡ 0) → AcceptedCall p commands room r q filled (framesRun ran zero)
+  pub long : (length q ≡ length p) × (length filled ≡ length room)
+
+-- two outcomes on the same bytes are the same, but for where in the pool the marks stand
+pub record OneOutcome (r r′ : Outcome) (q q′ filled filled′ : List ℕ) : Type 0 where
+  pub result : r ≡ r′
+  pub answers : filled ≡ filled′
+  pub pool : meaning q ≡ meaning q′
+
+-- mark, whatever the line: one of six numbers, and no refusal
+abbrev pub MarkTakesAll : ℕ → Type 0
+MarkTakesAll r = (r ≡ 0) ⊎ (r ≡ 1) ⊎ (r ≡ 2) ⊎ (r ≡ 3) ⊎ (r ≡ 4) ⊎ (r ≡ 15)
+
+-- what the calls do
+pub record Demand1 : Type 0 where
+  pub format : (p : List ℕ) (status : ℕ) (q : List ℕ) → Formats p status q → FormatTakesAll p status q
+  pub run : (p commands room : List ℕ) (r : Outcome) (q filled : List ℕ) (ran : Ran p commands room r q filled)
+      → RunTakesAll p commands room r q filled ran
+  pub alone : (p commands room : List ℕ) (r r′ : Outcome) (q q′ filled filled′ : List ℕ) → Ran p commands room r q filled
+      → Ran p commands room r′ q′ filled′ → OneOutcome r r′ q q′ filled filled′
+  pub mark : (line : List ℕ) (r : ℕ) → r ≡ markOf line → MarkTakesAll r
+
+-- that they end: each call's code, on any arguments, ends and leaves what its contract says
+pub record Demand1Ends : Type 2 where
+  pub mark : (M : Type 1) → Mark.statement M
