@@ -10,11 +10,11 @@ use lib.ListN.{length, drop}
 use Rattle.fortran.proofs.mark.Statement as Mark
 use Rattle.fortran.specs.Mark.{markOf}
 use Rattle.geometry.specs.Limits.{frameSize}
+use Rattle.index.specs.Alike.{SameOutcome}
 use Rattle.index.specs.Calls.{Formats, Ran}
 use Rattle.index.specs.Runs.{commandsIn}
 use Rattle.index.specs.declared.Outcome.{Outcome}
 use Rattle.pool.specs.Formatted.{formatted}
-use Rattle.pool.specs.Meaning.{meaning}
 use Rattle.protocol.specs.Frames.{bytesOfAnswer}
 use Rattle.protocol.specs.Respond.{refused}
 use Rattle.sequence.specs.Items.{All}
@@ -46,12 +46,6 @@ pub record RunTakesAll (p commands room : List ℕ) (r : Outcome) (q filled : Li
   pub accepted : (zero : r .status ≡ 0) → AcceptedCall p commands room r q filled (framesRun ran zero)
   pub long : (length q ≡ length p) × (length filled ≡ length room)
 
--- two outcomes on the same bytes are the same, but for where in the pool the marks stand
-pub record OneOutcome (r r′ : Outcome) (q q′ filled filled′ : List ℕ) : Type 0 where
-  pub result : r ≡ r′
-  pub answers : filled ≡ filled′
-  pub pool : meaning q ≡ meaning q′
-
 -- mark, whatever the line: one of six numbers, and no refusal
 abbrev pub MarkTakesAll : ℕ → Type 0
 MarkTakesAll r = (r ≡ 0) ⊎ (r ≡ 1) ⊎ (r ≡ 2) ⊎ (r ≡ 3) ⊎ (r ≡ 4) ⊎ (r ≡ 15)
@@ -61,8 +55,9 @@ pub record Demand1 : Type 0 where
   pub format : (p : List ℕ) (status : ℕ) (q : List ℕ) → Formats p status q → FormatTakesAll p status q
   pub run : (p commands room : List ℕ) (r : Outcome) (q filled : List ℕ) (ran : Ran p commands room r q filled)
       → RunTakesAll p commands room r q filled ran
-  pub alone : (p commands room : List ℕ) (r r′ : Outcome) (q q′ filled filled′ : List ℕ) → Ran p commands room r q filled
-      → Ran p commands room r′ q′ filled′ → OneOutcome r r′ q q′ filled filled′
+  -- and no two outcomes differ, but in the bytes of pools that mean the same
+  pub alone : (p commands room : List ℕ) (r : Outcome) (q filled : List ℕ) (r′ : Outcome) (q′ filled′ : List ℕ) → Ran p commands room r q filled
+      → Ran p commands room r′ q′ filled′ → SameOutcome r q filled r′ q′ filled′
   pub mark : (line : List ℕ) (r : ℕ) → r ≡ markOf line → MarkTakesAll r
 
 -- that they end: each call's code, on any arguments, ends and leaves what its contract says

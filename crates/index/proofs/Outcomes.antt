@@ -33,7 +33,7 @@ test-gives-one n A Behind one s t (inr x) (inl y) = absurd (y .1 (x .0))
 test-gives-one n A Behind one s t (inr x) (inr y) = one s t (x .1) (y .1)
 
 -- a length is allowed or not
-length-cases : (bytes : ℕ) → LengthAllowed bytes ⊎ (LengthAllowed bytes → ⊥)
+pub length-cases : (bytes : ℕ) → LengthAllowed bytes ⊎ (LengthAllowed bytes → ⊥)
 length-cases bytes =
     ⊎-elim (λ (e : bytes % blockSize + (shortestPool - bytes) + (bytes - longestPool) ≡ 0). inl (record { whole = omega arith; shortest = omega arith; longest = omega arith }))
     (λ (l : 0 < bytes % blockSize + (shortestPool - bytes) + (bytes - longestPool)). inr (λ a. omega arith))

@@ -1,0 +1,4 @@
+pub mod Eights
+pub mod FramesRun
+pub mod AcceptedCalls
+pub mod FirstDemand
