@@ -128,4 +128,4 @@ demand-1 =
     }
 
 pub demand-1-ends : Demand1Ends
-demand-1-ends = record { mark = λ M. MarkMet.met }
+demand-1-ends = record { markEnds = λ M. MarkMet.met; markAsksNothing = λ κs a w. refl }

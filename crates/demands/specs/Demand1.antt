@@ -7,7 +7,13 @@ use mathlib.Core.List.{List, map}
 use mathlib.Core.Logic.{_⊎_, _≢_}
 use Prim.Native.Nat.{ℕ, _*_}
 use lib.ListN.{length, drop}
+use Rattle.fortran.proofs.mark.Kinds as MarkKinds
+use Rattle.fortran.proofs.mark.Reads as MarkReads
 use Rattle.fortran.proofs.mark.Statement as Mark
+use borrow.Fn.Kinds.{Dens}
+use borrow.Fn.World.{World, Pr}
+use contract.Lifetimes.{Lfts}
+use contract.Notation.{connectives}
 use Rattle.fortran.specs.Mark.{markOf}
 use Rattle.geometry.specs.Limits.{frameSize}
 use Rattle.index.specs.Alike.{SameOutcome}
@@ -50,7 +56,8 @@ pub record RunTakesAll (p commands room : List ℕ) (r : Outcome) (q filled : Li
 abbrev pub MarkTakesAll : ℕ → Type 0
 MarkTakesAll r = (r ≡ 0) ⊎ (r ≡ 1) ⊎ (r ≡ 2) ⊎ (r ≡ 3) ⊎ (r ≡ 4) ⊎ (r ≡ 15)
 
--- what the calls do
+-- What the calls do.
+
 pub record Demand1 : Type 0 where
   pub format : (p : List ℕ) (status : ℕ) (q : List ℕ) → Formats p status q → FormatTakesAll p status q
   pub run : (p commands room : List ℕ) (r : Outcome) (q filled : List ℕ) (ran : Ran p commands room r q filled)
@@ -60,6 +67,13 @@ pub record Demand1 : Type 0 where
       → Ran p commands room r′ q′ filled′ → SameOutcome r q filled r′ q′ filled′
   pub mark : (line : List ℕ) (r : ℕ) → r ≡ markOf line → MarkTakesAll r
 
--- that they end: each call's code, on any arguments, ends and leaves what its contract says
+-- That the calls end, and rely on nothing.
+
+-- the condition that says nothing
+abbrev pub Nothing : (w : World) → Pr w
+Nothing w = connectives (w .𝓤) .⊤ₛ
+
+-- each call's code, on whatever it is lent, ends safely and leaves what its contract says; and the contract asks for nothing
 pub record Demand1Ends : Type 2 where
-  pub mark : (M : Type 1) → Mark.statement M
+  pub markEnds : (M : Type 1) → Mark.statement M
+  pub markAsksNothing : (κs : Lfts 1) (a : Dens κs MarkKinds.ps) (w : World) → MarkReads.requires κs a tt w ≡ Nothing w

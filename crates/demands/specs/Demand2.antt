@@ -3,7 +3,7 @@
 -- unpromised."
 -- Assumes nothing.
 use mathlib.Core.Path.{_≡_}
-use mathlib.Core.List.{List, map}
+use mathlib.Core.List.{List, [], _∷_, _++_, map}
 use mathlib.Core.Logic.{_↔_, _≢_}
 use Prim.Native.Nat.{ℕ, _+_, _-_, _*_, _≤_, _<_}
 use lib.ListN.{length, getD, take}
@@ -11,11 +11,11 @@ use Rattle.geometry.specs.Limits.{marksPerShare}
 use Rattle.index.specs.Calls.{Ran}
 use Rattle.index.specs.declared.Outcome.{Outcome}
 use Rattle.machine.specs.Machine.{trees}
-use Rattle.pool.specs.Blocks.{leafMarks}
+use Rattle.pool.specs.Blocks.{entries, leafMarks, link}
 use Rattle.pool.specs.Meaning.{meaning}
 use Rattle.pool.specs.Names.{recordOf, pathOf}
 use Rattle.pool.specs.Sound.{Sound}
-use Rattle.protocol.specs.Commands.{openCode, insertCode, accessCode, rankCode, selectCode}
+use Rattle.protocol.specs.Commands.{openCode, insertCode, accessCode}
 use Rattle.protocol.specs.Edges.{edges, answered}
 use Rattle.protocol.specs.Refusals.{NoneApplies, Lowest, refusals}
 use Rattle.protocol.specs.Respond.{respond, withoutDepth}
@@ -70,18 +70,30 @@ TooFewShares f = free f < f .command .number
 
 -- The depth.
 
--- blocks entered from the root on, the last of which is the leaf that bears place i of the marks, as its mark number i - left
-pub record Bears (p path : List ℕ) (root i : ℕ) (marks : List ℕ) : Type 0 where
+-- each block but the first is one that the block before it links to as a child
+abbrev pub Linked : List ℕ → List ℕ → Type 0
+Linked p [] = Unit {0}
+Linked p (b ∷ []) = Unit {0}
+Linked p (b ∷ c ∷ bs) = ((k : ℕ) × (k < entries p b) × (c ≡ link p b k)) × Linked p (c ∷ bs)
+
+-- the last of some blocks
+abbrev pub lastOf : List ℕ → ℕ
+lastOf path = getD path (length path - 1) 0
+
+-- these blocks stand from the root to the leaf that bears place i: the leaf's marks follow those left of it, and the place is among them
+pub record FromRootTo (p path : List ℕ) (root i : ℕ) (all : List ℕ) : Type 0 where
   pub first : getD path 0 0 ≡ root
-  pub left : ℕ
-  pub past : left < i
-  pub within : i ≤ left + length (leafMarks p (getD path (length path - 1) 0))
-  pub mark : access (leafMarks p (getD path (length path - 1) 0)) (i - left) ≡ access marks i
+  pub linked : Linked p path
+  pub left : List ℕ
+  pub right : List ℕ
+  pub marks : all ≡ left ++ (leafMarks p (lastOf path) ++ right)
+  pub past : length left < i
+  pub within : i ≤ length left + length (leafMarks p (lastOf path))
 
 -- an access that isn't refused tells how many blocks stand from the root to the block that bears the place, by the depth rule
 pub record DepthOfPlace (f : Frame) : Type 0 where
   pub own : f .answer .depth ≡ length (pathOf (f .before) (f .command .name) (f .command .number))
-  pub bears : Bears (f .before) (pathOf (f .before) (f .command .name) (f .command .number)) (recordOf (f .before) (f .command .name) .root)
+  pub path : FromRootTo (f .before) (pathOf (f .before) (f .command .name) (f .command .number)) (recordOf (f .before) (f .command .name) .root)
       (f .command .number) (marks f)
   pub rule : DepthRule (length (marks f)) (f .answer .depth)
   pub same : f .after ≡ f .before
