@@ -45,8 +45,7 @@ format-takes-all p status q formats =
 -- a refused command's step
 refused-step : (f : Frame) → IsStep f → RefusedCommand f
 refused-step f step some =
-    let same = step .answer in
-    (
+    let same = step .answer in (
       same
           ∙ refused-answers-zeros trees (meaning (f .before)) (f .command) (λ zero. some (ap (λ a. a .status) same ∙ zero))
           ∙ ap (λ status. refused status (f .command)) (ap (λ a. a .status) (sym same)),

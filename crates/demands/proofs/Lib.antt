@@ -5,3 +5,6 @@ pub mod FirstDemand
 pub mod PlaceDepths
 pub mod SessionsRun
 pub mod SecondDemand
+pub mod OneNameRuns
+pub mod OwnShapes
+pub mod ThirdDemand
