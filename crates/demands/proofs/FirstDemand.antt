@@ -1,5 +1,5 @@
--- Demand 1, from the contracts' definitions: a length is allowed or not, the table of statuses has five rows, and a refused command's
--- step leaves the pool.
+-- Demand 1, from the contracts' definitions: a length is allowed or not, an accepted call has an answer
+-- frame for each command, and a refused command's step leaves the pool.
 -- Assumes nothing.
 use mathlib.Core.Bool.{Bool, true, false, cond}
 use mathlib.Core.Path.{_≡_, refl, sym, ap, _∙_}
@@ -12,7 +12,7 @@ use lib.ListN.{length}
 use Rattle.fortran.proofs.mark.Met as MarkMet
 use Rattle.fortran.specs.Mark.{markOf, firstThatFits, rules, card}
 use Rattle.index.proofs.Outcomes.{length-cases, same-outcome}
-use Rattle.index.specs.Calls.{Formats, StatusOfCall, Ran}
+use Rattle.index.specs.Calls.{Formats, Ran}
 use Rattle.index.specs.Runs.{commandsIn}
 use Rattle.index.specs.declared.Outcome.{Outcome}
 use Rattle.machine.specs.Machine.{trees}
@@ -52,15 +52,6 @@ refused-step f step some =
       step .stays (inl some),
     )
 
--- the five numbers
-numbers : (p commands room : List ℕ) (s : ℕ) → StatusOfCall p commands room s
-    → (s ≡ 0) ⊎ (s ≡ 101) ⊎ (s ≡ 102) ⊎ (s ≡ 103) ⊎ (s ≡ 104)
-numbers p commands room s (inl x) = inr (inl (x .0))
-numbers p commands room s (inr (inl x)) = inr (inr (inl (x .0)))
-numbers p commands room s (inr (inr (inl x))) = inr (inr (inr (inl (x .0))))
-numbers p commands room s (inr (inr (inr (inl x)))) = inr (inr (inr (inr (x .0))))
-numbers p commands room s (inr (inr (inr (inr x)))) = inl (x .0)
-
 map-map : {A B C : Type 0} (f : B → C) (g : A → B) (xs : List A) → map (λ x. f (g x)) xs ≡ map f (map g xs)
 map-map f g [] = refl
 map-map f g (x ∷ xs) = ap (λ l. f (g x) ∷ l) (map-map f g xs)
@@ -90,7 +81,7 @@ module _ (p commands room : List ℕ) (r : Outcome) (q filled : List ℕ) (ran :
   run-takes-all : RunTakesAll p commands room r q filled ran
   run-takes-all =
       record {
-        number = numbers p commands room (r .status) (ran .status);
+        table = ran .status;
         refused = ran .refused;
         accepted = accepted-call;
         long =

@@ -2,8 +2,10 @@ pub mod Eights
 pub mod FramesRun
 pub mod AcceptedCalls
 pub mod FirstDemand
+pub mod FreshPools
 pub mod PlaceDepths
 pub mod SessionsRun
+pub mod Doings
 pub mod SecondDemand
 pub mod OneNameRuns
 pub mod OwnShapes

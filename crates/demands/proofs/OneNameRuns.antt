@@ -3,30 +3,24 @@
 use mathlib.Core.Bool.{Bool, true, false, cond}
 use mathlib.Core.Path.{_≡_, refl, sym, ap, _∙_}
 use mathlib.Core.List.{List, [], _∷_, map}
-use mathlib.Core.Logic.{⊎-elim}
 use Prim.Native.Nat.{ℕ, _<_}
-use native.Mathlib.Omega.{arith}
-use lib.ListN.{length, getD}
-use Rattle.geometry.specs.Limits.{names, blockSize, directorySize}
-use Rattle.index.proofs.Outcomes.{length-cases}
+use lib.ListN.{getD}
+use Rattle.geometry.specs.Limits.{names}
 use Rattle.machine.proofs.Runs.{same-for-name}
 use Rattle.machine.specs.Machine.{trees}
 use Rattle.machine.specs.OneName as OneName
-use Rattle.machine.specs.OneName.{HasNames, AlikeAt, beside, isTo, isOpening, framesTo, answersFor}
-use Rattle.pool.proofs.FormattedSound.{formatted-meaning}
+use Rattle.machine.specs.OneName.{HasNames, AlikeAt, beside, isTo, isOpening, answersFor}
 use Rattle.pool.proofs.Froms.{length-from}
 use Rattle.pool.proofs.Meanings.{part-meaning}
-use Rattle.pool.specs.Formatted.{formatted}
 use Rattle.pool.specs.Meaning.{meaningOf, meaning}
 use Rattle.protocol.specs.Frames.{bytesOfAnswer}
 use Rattle.protocol.specs.Respond as Respond
-use Rattle.protocol.specs.State as State
-use Rattle.protocol.specs.State.{Part, partOf}
+use Rattle.protocol.specs.State.{partOf}
 use Rattle.protocol.specs.declared.Answer.{Answer}
 use Rattle.protocol.specs.declared.Command.{Command}
-use Rattle.shape.specs.Trees.{Tree}
-use Rattle.demands.specs.Accepted.{Call, Session, commandsOf, answersOf}
-use Rattle.demands.specs.Demand3.{commandsTo, answersTo, openingsOf, Fresh, SameCommands, Alike, AnsweredAlike}
+use Rattle.demands.specs.Accepted.{Fresh, Call, Session, commandsOf, answersOf}
+use Rattle.demands.specs.Demand3.{commandsTo, answersTo, openingsOf, SameCommands, Alike, AnsweredAlike}
+use Rattle.demands.proofs.FreshPools.{fresh-part}
 use Rattle.demands.proofs.SessionsRun.{session-answers, session-meaning}
 
 -- picked items stay picked under a function
@@ -90,19 +84,8 @@ alike-answered-alike x p p′ q q′ calls calls′ alike one two same =
       end = part-at-end x calls p q one (same .name) ∙ result .end ∙ sym (part-at-end x calls′ p′ q′ two (same .name));
     }
 
--- A pool that format has just left: every name is closed.
-no-part-yet : (x : ℕ) → x < names → (p : List ℕ) → Fresh p → meaningOf p x ≡ partOf (State.formatted {A = Tree} 0) x
-no-part-yet x low p fresh =
-    ⊎-elim
-    (λ allowed.
-    let is : p ≡ formatted (length (fresh .before)) = fresh .formats .allowed allowed .1 in
-    sym (part-meaning p x low)
-    ∙ ap (λ bytes. partOf (meaning bytes) x) is
-    ∙ ap (λ s. partOf s x) (formatted-meaning (length (fresh .before)) allowed))
-    (λ not. absurd (omega (arith, fresh .formats .refused not .0)))
-    (length-cases (length (fresh .before)))
-
+-- from pools that format has just left
 pub fresh-answered-alike : (x : ℕ) (p p′ q q′ : List ℕ) (calls calls′ : List Call) → Fresh p → Fresh p′ → Session p calls q → Session p′ calls′ q′
     → SameCommands x calls calls′ → AnsweredAlike x calls calls′ q q′
 fresh-answered-alike x p p′ q q′ calls calls′ fresh fresh′ one two same =
-    alike-answered-alike x p p′ q q′ calls calls′ (no-part-yet x (same .name) p fresh ∙ sym (no-part-yet x (same .name) p′ fresh′)) one two same
+    alike-answered-alike x p p′ q q′ calls calls′ (fresh-part x (same .name) p fresh ∙ sym (fresh-part x (same .name) p′ fresh′)) one two same

@@ -49,7 +49,9 @@ use Rattle.demands.specs.Demand2.{
   Demand2,
 }
 use Rattle.demands.proofs.AcceptedCalls.{each-of-call, sound-after}
+use Rattle.demands.proofs.Doings.{frame-does}
 use Rattle.demands.proofs.FramesRun.{IsStep}
+use Rattle.demands.proofs.FreshPools.{fresh-sound, fresh-held}
 use Rattle.demands.proofs.PlaceDepths.{path-to-place, filled-meaning, shares-within}
 use Rattle.demands.proofs.SessionsRun.{session-answers, session-meaning}
 
@@ -138,6 +140,7 @@ module _ (f : Frame) (sound : Sound (f .before)) (step : IsStep f) where
   frame-answers =
       record {
         definition = by-definition-1 f step;
+        does = λ zero. frame-does f (by-definition-1 f step) (sym (status-by-table f step) ∙ zero);
         order = in-order f step;
         full = full-exactly f step;
         noRoom = no-room-exactly f step;
@@ -167,6 +170,7 @@ demand-2 =
     record {
       frames = λ p commands room r q filled ran zero. each-of-call p commands room r q filled ran zero Answers frame-answers;
       sound = sound-after;
+      fresh = λ p fresh. (fresh-sound p fresh, fresh-held p fresh);
       edges = edges-hold;
       rankAndSelect = rank-and-select;
       oneOrSeveral = one-or-several;

@@ -5,7 +5,7 @@ use mathlib.Core.List.{List, [], _∷_, _++_}
 use Prim.Native.Nat.{ℕ, _*_, _/_}
 use lib.ListN.{length, take, drop}
 use Rattle.geometry.specs.Limits.{frameSize}
-use Rattle.index.specs.Calls.{Ran}
+use Rattle.index.specs.Calls.{Formats, Ran}
 use Rattle.index.specs.Runs.{Runs, commandsIn}
 use Rattle.index.specs.declared.Outcome.{Outcome}
 use Rattle.pool.specs.Bytes.{from}
@@ -42,6 +42,11 @@ abbrev pub answerFrames : List ℕ → List ℕ → List (List ℕ)
 answerFrames commands filled = eights (take (length commands) filled)
 
 -- Several calls.
+
+-- a pool that format has just left
+pub record Fresh (p : List ℕ) : Type 0 where
+  pub before : List ℕ
+  pub formats : Formats before 0 p
 
 -- a call: the commands lent, the answer room before and after, and what came of it
 pub record Call : Type 0 where

@@ -17,7 +17,7 @@ use contract.Notation.{connectives}
 use Rattle.fortran.specs.Mark.{markOf}
 use Rattle.geometry.specs.Limits.{frameSize}
 use Rattle.index.specs.Alike.{SameOutcome}
-use Rattle.index.specs.Calls.{Formats, Ran}
+use Rattle.index.specs.Calls.{Formats, StatusOfCall, Ran}
 use Rattle.index.specs.Runs.{commandsIn}
 use Rattle.index.specs.declared.Outcome.{Outcome}
 use Rattle.pool.specs.Formatted.{formatted}
@@ -45,9 +45,9 @@ pub record AcceptedCall (p commands room : List ℕ) (r : Outcome) (q filled : L
   pub behind : drop (length commands) filled ≡ drop (length commands) room
   pub refusals : All RefusedCommand frames
 
--- run, whatever the bytes: one of five numbers; refused, the lent buffers are as they were (commands are lent to be read alone)
+-- run, whatever the bytes: the first of document 01's reasons that applies gives the number; refused, the lent buffers are as they were (commands are lent to be read alone)
 pub record RunTakesAll (p commands room : List ℕ) (r : Outcome) (q filled : List ℕ) (ran : Ran p commands room r q filled) : Type 0 where
-  pub number : (r .status ≡ 0) ⊎ (r .status ≡ 101) ⊎ (r .status ≡ 102) ⊎ (r .status ≡ 103) ⊎ (r .status ≡ 104)
+  pub table : StatusOfCall p commands room (r .status)
   pub refused : r .status ≢ 0 → (r .count ≡ 0) × (q ≡ p) × (filled ≡ room)
   pub accepted : (zero : r .status ≡ 0) → AcceptedCall p commands room r q filled (framesRun ran zero)
   pub long : (length q ≡ length p) × (length filled ≡ length room)

@@ -12,18 +12,19 @@ use Rattle.index.specs.Calls.{Ran}
 use Rattle.index.specs.declared.Outcome.{Outcome}
 use Rattle.machine.specs.Machine.{trees}
 use Rattle.pool.specs.Blocks.{entries, leafMarks, link}
+use Rattle.pool.specs.Bytes.{shares}
 use Rattle.pool.specs.Meaning.{meaning}
 use Rattle.pool.specs.Names.{recordOf, pathOf}
 use Rattle.pool.specs.Sound.{Sound}
-use Rattle.protocol.specs.Commands.{openCode, insertCode, accessCode}
+use Rattle.protocol.specs.Commands.{openCode, insertCode, deleteCode, accessCode, rankCode, selectCode}
 use Rattle.protocol.specs.Edges.{edges, answered}
 use Rattle.protocol.specs.Refusals.{NoneApplies, Lowest, refusals}
 use Rattle.protocol.specs.Respond.{respond, withoutDepth}
-use Rattle.protocol.specs.State.{Part, State, partOf, sharesOf, marksOf, unpromised, lists, asLists}
-use Rattle.sequence.specs.Definition1.{count, access, rank, select}
+use Rattle.protocol.specs.State.{Part, State, formatted, partOf, sharesOf, marksOf, unpromised, lists, asLists}
+use Rattle.sequence.specs.Definition1.{count, access, rank, select, insert, delete}
 use Rattle.sequence.specs.Items.{All}
 use Rattle.shape.specs.Depth.{DepthRule}
-use Rattle.demands.specs.Accepted.{Frame, framesRun, Call, Session, commandsOf, answersOf}
+use Rattle.demands.specs.Accepted.{Frame, framesRun, Fresh, Call, Session, commandsOf, answersOf}
 
 -- what a pool holds: its shares, and for each name nothing, or an alphabet size, the shares promised and a list of marks
 abbrev pub held : List ℕ → State (List ℕ)
@@ -36,6 +37,10 @@ part f = partOf (held (f .before)) (f .command .name)
 abbrev pub marks : Frame → List ℕ
 marks f = marksOf lists (part f)
 
+-- after it
+abbrev pub marksAfter : Frame → List ℕ
+marksAfter f = marksOf lists (partOf (held (f .after)) (f .command .name))
+
 -- the unpromised shares before a frame
 abbrev pub free : Frame → ℕ
 free f = unpromised (held (f .before))
@@ -46,6 +51,18 @@ free f = unpromised (held (f .before))
 pub record ByDefinition1 (f : Frame) : Type 0 where
   pub answer : withoutDepth (f .answer) ≡ respond lists (held (f .before)) (f .command) .answer
   pub holds : held (f .after) ≡ respond lists (held (f .before)) (f .command) .state
+
+-- in plain words, of a frame that isn't refused: what it answers and what it makes of its name's list
+pub record Does (f : Frame) : Type 0 where
+  pub inserts : f .command .code ≡ insertCode
+      → (f .answer .value ≡ length (marks f) + 1) × (marksAfter f ≡ insert (f .command .symbol) (f .command .number) (marks f))
+  pub deletes : f .command .code ≡ deleteCode
+      → (f .answer .symbol ≡ access (marks f) (f .command .number))
+      × (f .answer .value ≡ length (marks f) - 1)
+      × (marksAfter f ≡ delete (f .command .number) (marks f))
+  pub accesses : f .command .code ≡ accessCode → f .answer .symbol ≡ access (marks f) (f .command .number)
+  pub ranks : f .command .code ≡ rankCode → f .answer .value ≡ rank (f .command .symbol) (marks f) (f .command .number)
+  pub selects : f .command .code ≡ selectCode → f .answer .value ≡ select (f .command .symbol) (marks f) (f .command .number)
 
 -- the status is the lowest that applies, and 0 exactly when none applies
 abbrev pub InOrder : Frame → Type 0
@@ -107,6 +124,7 @@ pub record Depth (f : Frame) : Type 0 where
 -- one frame
 pub record Answers (f : Frame) : Type 0 where
   pub definition : ByDefinition1 f
+  pub does : f .answer .status ≡ 0 → Does f
   pub order : InOrder f
   pub full : Exactly 11 insertCode RoomUsedUp f
   pub noRoom : Exactly 12 openCode TooFewShares f
@@ -132,6 +150,8 @@ pub record Demand2 : Type 0 where
   pub frames : (p commands room : List ℕ) (r : Outcome) (q filled : List ℕ) (ran : Ran p commands room r q filled) (zero : r .status ≡ 0)
       → All Answers (framesRun ran zero)
   pub sound : (p commands room : List ℕ) (r : Outcome) (q filled : List ℕ) → Ran p commands room r q filled → r .status ≡ 0 → Sound q
+  -- a formatted pool is sound, with every name closed
+  pub fresh : (p : List ℕ) → Fresh p → Sound p × (held p ≡ formatted (shares p))
   -- document 01's edges
   pub edges : map answered edges ≡ map (λ e. e .expected) edges
   pub rankAndSelect : (c : ℕ) (xs : List ℕ) → RankAndSelect c xs

@@ -9,7 +9,7 @@ use mathlib.Core.Logic.{_≢_}
 use Prim.Native.Nat.{ℕ, _<_}
 use lib.ListN.{getD}
 use Rattle.geometry.specs.Limits.{names}
-use Rattle.index.specs.Calls.{Formats, Ran}
+use Rattle.index.specs.Calls.{Ran}
 use Rattle.index.specs.declared.Outcome.{Outcome}
 use Rattle.machine.specs.Machine.{trees}
 use Rattle.machine.specs.OneName.{beside, isTo, isOpening, framesTo}
@@ -22,7 +22,7 @@ use Rattle.protocol.specs.State.{Part, opened}
 use Rattle.protocol.specs.declared.Command.{Command}
 use Rattle.sequence.specs.Items.{All}
 use Rattle.shape.specs.Trees.{Tree, emptyT}
-use Rattle.demands.specs.Accepted.{Frame, framesRun, Call, Session, commandsOf, answersOf}
+use Rattle.demands.specs.Accepted.{Frame, framesRun, Fresh, Call, Session, commandsOf, answersOf}
 use Rattle.demands.specs.Demand2.{Demand2}
 
 -- One name in a list of accepted calls.
@@ -40,11 +40,6 @@ abbrev pub openingsOf : ℕ → List Call → List ℕ
 openingsOf x calls = map (λ bytes. getD bytes 0 0) (beside isOpening (commandsTo x calls) (answersTo x calls))
 
 -- Two runs.
-
--- a pool that format has just left
-pub record Fresh (p : List ℕ) : Type 0 where
-  pub before : List ℕ
-  pub formats : Formats before 0 p
 
 -- one name's commands are the same, in the same order, and each of its openings gets the same status; all other commands are free
 pub record SameCommands (x : ℕ) (calls calls′ : List Call) : Type 0 where
