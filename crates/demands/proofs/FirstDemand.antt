@@ -3,12 +3,12 @@
 -- Assumes nothing.
 use mathlib.Core.Bool.{Bool, true, false, cond}
 use mathlib.Core.Path.{_≡_, refl, sym, ap, _∙_}
-use mathlib.Core.List.{List, [], _∷_, map}
+use mathlib.Core.List.{List, [], _∷_, map, map-map}
 use mathlib.Core.Logic.{_⊎_, _≢_, inl, inr, ⊎-elim}
 use Prim.Native.Nat.{ℕ, _<_}
 use native.Mathlib.Nat.{eq-zero-or-pos}
 use native.Mathlib.Omega.{arith}
-use lib.ListN.{length}
+use lib.ListN.{length, length-map}
 use Rattle.fortran.proofs.mark.Met as MarkMet
 use Rattle.fortran.specs.Mark.{markOf, firstThatFits, rules, card}
 use Rattle.index.proofs.Outcomes.{length-cases, same-outcome}
@@ -52,14 +52,6 @@ refused-step f step some =
       step .stays (inl some),
     )
 
-map-map : {A B C : Type 0} (f : B → C) (g : A → B) (xs : List A) → map (λ x. f (g x)) xs ≡ map f (map g xs)
-map-map f g [] = refl
-map-map f g (x ∷ xs) = ap (λ l. f (g x) ∷ l) (map-map f g xs)
-
-length-of-map : {A B : Type 0} (f : A → B) (xs : List A) → length (map f xs) ≡ length xs
-length-of-map f [] = refl
-length-of-map f (x ∷ xs) = omega (arith, length-of-map f xs)
-
 module _ (p commands room : List ℕ) (r : Outcome) (q filled : List ℕ) (ran : Ran p commands room r q filled) where
   accepted-call : (zero : r .status ≡ 0) → AcceptedCall p commands room r q filled (framesRun ran zero)
   accepted-call zero =
@@ -69,10 +61,10 @@ module _ (p commands room : List ℕ) (r : Outcome) (q filled : List ℕ) (ran :
       record {
         each = frames-commands (commandsIn commands) p q told run;
         answers =
-            map-map bytesOfAnswer (λ f. f .answer) (framesRun ran zero)
+            sym (map-map bytesOfAnswer (λ f. f .answer) (framesRun ran zero))
             ∙ ap (map bytesOfAnswer) same
             ∙ sym (answer-frames p commands room r q filled ran zero);
-        count = ran .accepted zero .many ∙ ap length (sym same) ∙ length-of-map (λ f. f .answer) (framesRun ran zero);
+        count = ran .accepted zero .many ∙ ap length (sym same) ∙ length-map (framesRun ran zero) (λ f. f .answer);
         whole = whole-frames p commands room r q filled ran zero;
         behind = rest-of-room p commands room r q filled ran zero;
         refusals = each-of-call p commands room r q filled ran zero RefusedCommand (λ f sound step. refused-step f step);

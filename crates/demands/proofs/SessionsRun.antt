@@ -1,7 +1,7 @@
 -- Accepted calls one after the other are one run of all their commands, and their answer frames are that run's answers.
 -- Assumes nothing.
 use mathlib.Core.Path.{_≡_, refl, sym, ap, ap₂, _∙_}
-use mathlib.Core.List.{List, [], _∷_, _++_, map}
+use mathlib.Core.List.{List, [], _∷_, _++_, map, map-append}
 use Prim.Native.Nat.{ℕ}
 use Rattle.index.proofs.Following.{runs-append, runs-answers, runs-meaning}
 use Rattle.index.specs.Runs.{Runs, commandsIn}
@@ -18,10 +18,6 @@ pub record OneRun (p : List ℕ) (calls : List Call) (q : List ℕ) : Type 0 whe
   pub told : List Answer
   pub run : Runs p (commandsOf calls) told q
   pub bytes : answersOf calls ≡ map bytesOfAnswer told
-
-map-append : {A B : Type 0} (f : A → B) (xs ys : List A) → map f (xs ++ ys) ≡ map f xs ++ map f ys
-map-append f [] ys = refl
-map-append f (x ∷ xs) ys = ap (λ l. f x ∷ l) (map-append f xs ys)
 
 pub session-runs : (calls : List Call) (p q : List ℕ) → Session p calls q → OneRun p calls q
 unfolding commandsOf answersOf
