@@ -33,13 +33,22 @@ use Rattle.demands.proofs.AcceptedCalls.{
   length-pool,
   each-of-call,
 }
-use Rattle.demands.proofs.FramesRun.{IsStep, frames-commands, frames-answers}
+use Rattle.demands.proofs.FramesRun.{IsStep, frames-commands, frames-answers, frames-in-turn}
 
 format-takes-all : (p : List ℕ) (status : ℕ) (q : List ℕ) → Formats p status q → FormatTakesAll p status q
 format-takes-all p status q formats =
     ⊎-elim
-    (λ is. let done = formats .allowed is in record { number = inl (done .0); refused = λ some. absurd (some (done .0)); accepted = λ zero. done .1 })
-    (λ not. let kept = formats .refused not in record { number = inr (kept .0); refused = λ some. kept .1; accepted = λ zero. absurd (omega (arith, kept .0)) })
+    (λ is.
+    let done = formats .allowed is in
+    record { number = inl (done .0); when = (λ zero. is, λ _. done .0); refused = λ some. absurd (some (done .0)); accepted = λ zero. done .1 })
+    (λ not.
+    let kept = formats .refused not in
+    record {
+      number = inr (kept .0);
+      when = (λ zero. absurd (omega (arith, kept .0)), λ is. absurd (not is));
+      refused = λ some. kept .1;
+      accepted = λ zero. absurd (omega (arith, kept .0));
+    })
     (length-cases (length p))
 
 -- a refused command's step
@@ -60,6 +69,7 @@ module _ (p commands room : List ℕ) (r : Outcome) (q filled : List ℕ) (ran :
       let same : map (λ f. f .answer) (framesRun ran zero) ≡ told = frames-answers (commandsIn commands) p q told run in
       record {
         each = frames-commands (commandsIn commands) p q told run;
+        turns = frames-in-turn (commandsIn commands) p q told run;
         answers =
             sym (map-map bytesOfAnswer (λ f. f .answer) (framesRun ran zero))
             ∙ ap (map bytesOfAnswer) same

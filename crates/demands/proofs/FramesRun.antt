@@ -9,7 +9,7 @@ use Rattle.pool.specs.Sound.{Sound}
 use Rattle.protocol.specs.declared.Answer.{Answer}
 use Rattle.protocol.specs.declared.Command.{Command}
 use Rattle.sequence.specs.Items.{All}
-use Rattle.demands.specs.Accepted.{Frame, framesOf}
+use Rattle.demands.specs.Accepted.{Frame, InTurn, framesOf}
 
 pub frames-commands : (cs : List Command) (p q : List ℕ) (answers : List Answer) (runs : Runs p cs answers q)
     → map (λ f. f .command) (framesOf p cs answers q runs) ≡ cs
@@ -21,6 +21,11 @@ pub frames-answers : (cs : List Command) (p q : List ℕ) (answers : List Answer
 frames-answers [] p q answers runs = sym (runs .0)
 frames-answers (c ∷ cs) p q answers runs =
     ap (λ l. runs .answer ∷ l) (frames-answers cs (runs .middle) q (runs .behind) (runs .rest)) ∙ sym (runs .whole)
+
+pub frames-in-turn : (cs : List Command) (p q : List ℕ) (answers : List Answer) (runs : Runs p cs answers q)
+    → InTurn p (framesOf p cs answers q runs) q
+frames-in-turn [] p q answers runs = runs .1
+frames-in-turn (c ∷ cs) p q answers runs = (refl, frames-in-turn cs (runs .middle) q (runs .behind) (runs .rest))
 
 -- a frame is a step from the pool before it to the pool after it
 abbrev pub IsStep : Frame → Type 0

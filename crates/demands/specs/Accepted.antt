@@ -21,6 +21,11 @@ pub record Frame : Type 0 where
   pub answer : Answer
   pub after : List ℕ
 
+-- frames in turn, each from the pool that the one before it left, from the pool p to the pool q
+abbrev pub InTurn : List ℕ → List Frame → List ℕ → Type 0
+InTurn p [] q = q ≡ p
+InTurn p (f ∷ fs) q = (f .before ≡ p) × InTurn (f .after) fs q
+
 -- the frames that were run, in order
 abbrev pub framesOf : (p : List ℕ) (cs : List Command) (answers : List Answer) (q : List ℕ) → Runs p cs answers q → List Frame
 framesOf p [] answers q runs = []
@@ -62,7 +67,7 @@ pub record FirstCall (p : List ℕ) (call : Call) (Rest : List ℕ → Type 0) :
   pub accepted : call .outcome .status ≡ 0
   pub rest : Rest middle
 
--- accepted calls one after the other, from the pool p to the pool q
+-- accepted calls one after the other, with no format between them, from the pool p to the pool q
 abbrev pub Session : List ℕ → List Call → List ℕ → Type 0
 Session p [] q = q ≡ p
 Session p (call ∷ calls) q = FirstCall p call (λ middle. Session middle calls q)

@@ -4,16 +4,16 @@
 -- Assumes nothing.
 use mathlib.Core.Path.{_≡_}
 use mathlib.Core.List.{List, map}
-use mathlib.Core.Logic.{_⊎_, _≢_}
+use mathlib.Core.Logic.{_⊎_, _↔_, _≢_}
 use Prim.Native.Nat.{ℕ, _*_}
 use lib.ListN.{length, drop}
-use Rattle.fortran.proofs.mark.Kinds as MarkKinds
-use Rattle.fortran.proofs.mark.Reads as MarkReads
-use Rattle.fortran.proofs.mark.Statement as Mark
 use borrow.Fn.Kinds.{Dens}
 use borrow.Fn.World.{World, Pr}
 use contract.Lifetimes.{Lfts}
 use contract.Notation.{connectives}
+use Rattle.fortran.proofs.mark.Kinds as MarkKinds
+use Rattle.fortran.proofs.mark.Reads as MarkReads
+use Rattle.fortran.proofs.mark.Statement as Mark
 use Rattle.fortran.specs.Mark.{markOf}
 use Rattle.geometry.specs.Limits.{frameSize}
 use Rattle.index.specs.Alike.{SameOutcome}
@@ -21,14 +21,16 @@ use Rattle.index.specs.Calls.{Formats, StatusOfCall, Ran}
 use Rattle.index.specs.Runs.{commandsIn}
 use Rattle.index.specs.declared.Outcome.{Outcome}
 use Rattle.pool.specs.Formatted.{formatted}
+use Rattle.pool.specs.Sound.{LengthAllowed}
 use Rattle.protocol.specs.Frames.{bytesOfAnswer}
 use Rattle.protocol.specs.Respond.{refused}
 use Rattle.sequence.specs.Items.{All}
-use Rattle.demands.specs.Accepted.{Frame, framesRun, answerFrames}
+use Rattle.demands.specs.Accepted.{Frame, InTurn, framesRun, answerFrames}
 
 -- format, whatever the bytes: 0 and a formatted pool, or 101 and every byte as it was
 pub record FormatTakesAll (p : List ℕ) (status : ℕ) (q : List ℕ) : Type 0 where
   pub number : (status ≡ 0) ⊎ (status ≡ 101)
+  pub when : (status ≡ 0) ↔ LengthAllowed (length p)
   pub refused : status ≢ 0 → q ≡ p
   pub accepted : status ≡ 0 → q ≡ formatted (length p)
 
@@ -36,16 +38,18 @@ pub record FormatTakesAll (p : List ℕ) (status : ℕ) (q : List ℕ) : Type 0 
 abbrev pub RefusedCommand : Frame → Type 0
 RefusedCommand f = f .answer .status ≢ 0 → (f .answer ≡ refused (f .answer .status) (f .command)) × (f .after ≡ f .before)
 
--- an accepted call: each command is run in its turn and has its answer frame, a refused one too; the room behind is as it was
+-- an accepted call: each command is run in its turn and has its answer frame, a refused one too; the room behind these is as it was
 pub record AcceptedCall (p commands room : List ℕ) (r : Outcome) (q filled : List ℕ) (frames : List Frame) : Type 0 where
   pub each : map (λ f. f .command) frames ≡ commandsIn commands
+  pub turns : InTurn p frames q
   pub answers : map (λ f. bytesOfAnswer (f .answer)) frames ≡ answerFrames commands filled
   pub count : r .count ≡ length frames
   pub whole : length commands ≡ frameSize * r .count
   pub behind : drop (length commands) filled ≡ drop (length commands) room
   pub refusals : All RefusedCommand frames
 
--- run, whatever the bytes: the first of document 01's reasons that applies gives the number; refused, the lent buffers are as they were (commands are lent to be read alone)
+-- run, whatever the bytes: the first of document 01's reasons that applies gives the number. Refused, all lent buffers are as they were;
+-- the commands always are, since they are lent to be read alone
 pub record RunTakesAll (p commands room : List ℕ) (r : Outcome) (q filled : List ℕ) (ran : Ran p commands room r q filled) : Type 0 where
   pub table : StatusOfCall p commands room (r .status)
   pub refused : r .status ≢ 0 → (r .count ≡ 0) × (q ≡ p) × (filled ≡ room)

@@ -30,14 +30,15 @@ use Rattle.demands.specs.Accepted.{Frame, framesRun, Fresh, Call, Sessio
 abbrev pub held : List ℕ → State (List ℕ)
 held p = asLists trees (meaning p)
 
--- of the name that a frame names, before it
+-- the part of the name that a frame names, before the frame
 abbrev pub part : Frame → Part (List ℕ)
 part f = partOf (held (f .before)) (f .command .name)
 
+-- its marks
 abbrev pub marks : Frame → List ℕ
 marks f = marksOf lists (part f)
 
--- after it
+-- its marks after the frame
 abbrev pub marksAfter : Frame → List ℕ
 marksAfter f = marksOf lists (partOf (held (f .after)) (f .command .name))
 
@@ -52,7 +53,7 @@ pub record ByDefinition1 (f : Frame) : Type 0 where
   pub answer : withoutDepth (f .answer) ≡ respond lists (held (f .before)) (f .command) .answer
   pub holds : held (f .after) ≡ respond lists (held (f .before)) (f .command) .state
 
--- in plain words, of a frame that isn't refused: what it answers and what it makes of its name's list
+-- the five operations by themselves: what a frame that isn't refused answers, and what it makes of its name's marks
 pub record Does (f : Frame) : Type 0 where
   pub inserts : f .command .code ≡ insertCode
       → (f .answer .value ≡ length (marks f) + 1) × (marksAfter f ≡ insert (f .command .symbol) (f .command .number) (marks f))
@@ -146,7 +147,7 @@ pub record SameAnswers (calls calls′ : List Call) (q q′ : List ℕ) : Type 0
   pub meaning : meaning q ≡ meaning q′
 
 pub record Demand2 : Type 0 where
-  -- each frame of each accepted call, and the pool that the call leaves
+  -- each frame of each accepted call (that the answers' bytes stand in the room is in demand 1), and the pool that the call leaves
   pub frames : (p commands room : List ℕ) (r : Outcome) (q filled : List ℕ) (ran : Ran p commands room r q filled) (zero : r .status ≡ 0)
       → All Answers (framesRun ran zero)
   pub sound : (p commands room : List ℕ) (r : Outcome) (q filled : List ℕ) → Ran p commands room r q filled → r .status ≡ 0 → Sound q
