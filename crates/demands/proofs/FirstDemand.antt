@@ -120,4 +120,4 @@ demand-1 =
     }
 
 pub demand-1-ends : Demand1Ends
-demand-1-ends = record { markEnds = λ M. MarkMet.met; markAsksNothing = λ κs a w. refl }
+demand-1-ends = record { markEnds = λ M. MarkMet.met; markAsks = λ κs a w. refl; markPromises = λ κs a r s w. refl }

@@ -7,11 +7,12 @@ use mathlib.Core.List.{List, map}
 use mathlib.Core.Logic.{_⊎_, _↔_, _≢_}
 use Prim.Native.Nat.{ℕ, _*_}
 use lib.ListN.{length, drop}
-use borrow.Fn.Kinds.{Dens}
-use borrow.Fn.World.{World, Pr}
+use borrow.Fn.World.{World, Pr, ArgsD, ResD}
 use contract.Lifetimes.{Lfts}
 use contract.Notation.{connectives}
-use Rattle.fortran.proofs.mark.Kinds as MarkKinds
+use denote.Ref.{now}
+use denote.Triple.Clauses.{AtExit}
+use Rattle.fortran.proofs.mark as mark
 use Rattle.fortran.proofs.mark.Reads as MarkReads
 use Rattle.fortran.proofs.mark.Statement as Mark
 use Rattle.fortran.specs.Mark.{markOf}
@@ -71,13 +72,18 @@ pub record Demand1 : Type 0 where
       → Ran p commands room r′ q′ filled′ → SameOutcome r q filled r′ q′ filled′
   pub mark : (line : List ℕ) (r : ℕ) → r ≡ markOf line → MarkTakesAll r
 
--- That the calls end, and rely on nothing.
+-- That the calls end, rely on nothing, and promise what is said above.
 
--- the condition that says nothing
+-- a condition that says nothing, and one that says this
 abbrev pub Nothing : (w : World) → Pr w
 Nothing w = connectives (w .𝓤) .⊤ₛ
 
--- each call's code, on whatever it is lent, ends safely and leaves what its contract says; and the contract asks for nothing
+abbrev pub Says : (w : World) → Type 0 → Pr w
+Says w This = connectives (w .𝓤) .⌜_⌝ This
+
+-- each call's code, on whatever it is lent, ends safely and keeps its contract, which asks for nothing and promises the definition above
 pub record Demand1Ends : Type 2 where
   pub markEnds : (M : Type 1) → Mark.statement M
-  pub markAsksNothing : (κs : Lfts 1) (a : Dens κs MarkKinds.ps) (w : World) → MarkReads.requires κs a tt w ≡ Nothing w
+  pub markAsks : (κs : Lfts 1) (a : ArgsD mark.signature κs) (w : World) → MarkReads.requires κs a tt w ≡ Nothing w
+  pub markPromises : (κs : Lfts 1) (a : ArgsD mark.signature κs) (r : ResD mark.signature κs) (s : AtExit mark.ended κs) (w : World)
+      → MarkReads.ensures κs a tt r s w ≡ Says w (r ≡ markOf (now (a .0)))
