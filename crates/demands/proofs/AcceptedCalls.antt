@@ -1,8 +1,8 @@
 -- An accepted call: its pool is sound, and its answer frames are those of its answers, since the commands are whole frames and each
 -- has one answer of eight bytes.
 -- Assumes nothing.
-use mathlib.Core.Path.{_≡_, sym, ap, _∙_}
-use mathlib.Core.List.{List, map, _++_}
+use mathlib.Core.Path.{_≡_, ap, _∙_}
+use mathlib.Core.List.{List, map}
 use mathlib.Core.Logic.{inl, inr}
 use Prim.Native.Nat.{ℕ, _*_, _/_, _≤_}
 use native.Mathlib.Omega.{arith}
@@ -10,18 +10,18 @@ use lib.ListN.{length, take, drop, length-append, length-drop}
 use lib.Seq.{take-at, drop-at}
 use Rattle.geometry.specs.Limits.{frameSize}
 use Rattle.index.proofs.Following.{runs-many, runs-long, runs-sound}
-use Rattle.index.specs.Calls.{CommandsAllowed, StatusOfCall, Answered, Ran}
+use Rattle.index.specs.Calls.{CommandsAllowed, StatusOfCall, Ran}
 use Rattle.index.specs.Runs.{Runs, commandsIn}
 use Rattle.index.specs.declared.Outcome.{Outcome}
 use Rattle.pool.proofs.Froms.{length-from}
-use Rattle.pool.specs.Sound.{LengthAllowed, Sound}
+use Rattle.pool.specs.Sound.{Sound}
 use Rattle.protocol.specs.Frames.{commandOf, bytesOfAnswer}
 use Rattle.protocol.specs.declared.Answer.{Answer}
 use Rattle.sequence.specs.Items.{All}
 use Rattle.shape.specs.Nested.{joined}
 use Rattle.demands.specs.Accepted.{Frame, framesRun, eights, answerFrames}
 use Rattle.demands.proofs.Eights.{length-of-frames, cut-frames, length-of-answer}
-use Rattle.demands.proofs.FramesRun.{IsStep, frames-commands, frames-answers, each-frame}
+use Rattle.demands.proofs.FramesRun.{IsStep, each-frame}
 
 -- what was found in order where 0 is given
 pub record Allowed (p commands room : List ℕ) : Type 0 where

@@ -1,11 +1,11 @@
 -- What a frame that isn't refused does, read off its row of the table of commands.
 -- Assumes nothing.
-use mathlib.Core.Bool.{Bool, true, false, false≢true}
-use mathlib.Core.Path.{_≡_, refl, sym, ap, _∙_}
+use mathlib.Core.Bool.{true, false, false≢true}
+use mathlib.Core.Path.{_≡_, refl, ap, _∙_}
 use mathlib.Core.List.{List}
 use Prim.Native.Nat.{ℕ, _<_}
 use native.Mathlib.Omega.{arith}
-use lib.ListN.{length, length-map}
+use lib.ListN.{length-map}
 use Rattle.geometry.specs.Limits.{names}
 use Rattle.machine.specs.Machine.{trees}
 use Rattle.pool.proofs.Froms.{length-from}
@@ -29,7 +29,7 @@ use Rattle.protocol.specs.Respond.{withoutDepth, accepted}
 use Rattle.protocol.specs.State.{Part, closed, opened, isOpen, partOf, marksOf, lists, partAsList}
 use Rattle.sequence.specs.Definition1 as Definition1
 use Rattle.demands.specs.Accepted.{Frame}
-use Rattle.demands.specs.Demand2.{held, part, marks, marksAfter, free, ByDefinition1, Does}
+use Rattle.demands.specs.Demand2.{held, part, free, ByDefinition1, Does}
 
 edited-marks : (edit : List ℕ → List ℕ) (p : Part (List ℕ)) → isOpen p ≡ true → marksOf lists (edited edit p) ≡ edit (marksOf lists p)
 edited-marks edit closed is = absurd (false≢true is)

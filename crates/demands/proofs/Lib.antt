@@ -10,3 +10,4 @@ pub mod SecondDemand
 pub mod OneNameRuns
 pub mod OwnShapes
 pub mod ThirdDemand
+pub mod Premises

@@ -18,7 +18,7 @@ use Rattle.protocol.specs.Respond as Respond
 use Rattle.protocol.specs.State.{partOf}
 use Rattle.protocol.specs.declared.Answer.{Answer}
 use Rattle.protocol.specs.declared.Command.{Command}
-use Rattle.demands.specs.Accepted.{Fresh, Call, Session, commandsOf, answersOf}
+use Rattle.demands.specs.Accepted.{Fresh, Call, Session, commandsOf}
 use Rattle.demands.specs.Demand3.{commandsTo, answersTo, openingsOf, SameCommands, Alike, AnsweredAlike}
 use Rattle.demands.proofs.FreshPools.{fresh-part}
 use Rattle.demands.proofs.SessionsRun.{session-answers, session-meaning}

@@ -8,7 +8,6 @@ use mathlib.Core.Logic.{_≢_}
 use Prim.Native.Nat.{ℕ, _<_}
 use native.Mathlib.Omega.{arith}
 use borrow.Author.Tests.{eqb-true, eqb-false}
-use lib.ListN.{length}
 use Rattle.geometry.specs.Limits.{names}
 use Rattle.index.specs.Runs.{Runs, commandsIn}
 use Rattle.machine.proofs.OwnParts.{reply-at, others-stay, opening-starts-afresh}

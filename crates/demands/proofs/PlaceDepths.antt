@@ -20,7 +20,6 @@ use Rattle.pool.specs.Sound.{OpenName, Sound}
 use Rattle.pool.specs.Trees.{shapeAt, entered, pathAt}
 use Rattle.protocol.specs.State.{partOf}
 use Rattle.shape.proofs.Descent.{path-leads}
-use Rattle.shape.specs.Nested.{flat}
 use Rattle.shape.specs.Paths.{Leads, path, leafAt, leftOf, rightOf}
 use Rattle.shape.specs.Trees.{marksT}
 use Rattle.demands.specs.Demand2.{Linked, lastOf, FromRootTo}

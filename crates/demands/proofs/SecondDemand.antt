@@ -1,14 +1,13 @@
 -- Demand 2, frame by frame: the machine's image on lists is Definition 1's, the statuses are the table's, the depth is the path's.
 -- Assumes nothing.
-use mathlib.Core.Bool.{Bool, true, false, false≢true}
+use mathlib.Core.Bool.{true, false, false≢true}
 use mathlib.Core.Path.{_≡_, refl, sym, ap, _∙_}
 use mathlib.Core.List.{List, map}
-use mathlib.Core.Logic.{_≢_, inl, inr, ⊎-elim}
+use mathlib.Core.Logic.{_≢_, inr, ⊎-elim}
 use Prim.Native.Nat.{ℕ, _≤_, _<_}
 use native.Mathlib.Omega.{arith}
 use lib.ListN.{length, List·getD-map}
 use Rattle.geometry.specs.Limits.{names}
-use Rattle.index.specs.declared.Outcome.{Outcome}
 use Rattle.machine.proofs.Depths.{access-tells-depth, others-tell-no-depth}
 use Rattle.machine.proofs.Image.{image-of-respond}
 use Rattle.machine.specs.Depth.{DepthTold}
@@ -16,9 +15,9 @@ use Rattle.machine.specs.Machine.{trees}
 use Rattle.pool.proofs.Meanings.{closed-meaning, open-meaning, part-meaning, valid-meaning}
 use Rattle.pool.proofs.SoundNames.{open-depth}
 use Rattle.pool.specs.Meaning.{meaning}
-use Rattle.pool.specs.Names.{recordOf, treeOf, pathOf}
+use Rattle.pool.specs.Names.{recordOf, treeOf}
 use Rattle.pool.specs.Sound.{OpenName, Sound}
-use Rattle.protocol.proofs.Accepted.{PlaceAccepted, access-accepted, name-is-below}
+use Rattle.protocol.proofs.Accepted.{access-accepted, name-is-below}
 use Rattle.protocol.proofs.EdgesHold.{edges-hold}
 use Rattle.protocol.proofs.Replies.{respond-status, refused-answers-zeros}
 use Rattle.protocol.proofs.Statuses.{status-is-lowest, full-exactly-when, shares-exceeded-exactly-when}
@@ -26,11 +25,10 @@ use Rattle.protocol.specs.Commands.{openCode, insertCode, accessCode}
 use Rattle.protocol.specs.Refusals.{statusOf}
 use Rattle.protocol.specs.Frames.{bytesOfAnswer}
 use Rattle.protocol.specs.Respond.{withoutDepth, answersTo, stateAfter}
-use Rattle.protocol.specs.State.{Part, closed, opened, isOpen, partOf, marksOf, unpromised, lists, partAsList, asLists}
-use Rattle.protocol.specs.declared.Command.{Command}
+use Rattle.protocol.specs.State.{closed, isOpen, partOf, marksOf, unpromised, lists, partAsList, asLists}
 use Rattle.sequence.proofs.Selects.{rank-select, access-select, select-rank}
-use Rattle.shape.specs.Trees.{Tree, marksT}
-use Rattle.demands.specs.Accepted.{Frame, Call, Session, commandsOf, answersOf}
+use Rattle.shape.specs.Trees.{marksT}
+use Rattle.demands.specs.Accepted.{Frame, Call, Session, commandsOf}
 use Rattle.demands.specs.Demand2.{
   held,
   part,
