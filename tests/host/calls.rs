@@ -57,7 +57,13 @@ pub fn command_lengths() -> Outcome<String> {
         let commands = Lent::of(&question.repeat(length / 8 + 1)[..length]);
         for room in [length.saturating_sub(1), length, length + 1, length + 8, length + 37] {
             let mut answers = Lent::filled(room, 0xC3);
-            let expected = if length % 8 != 0 || length > 8_192 { 102 } else if room < length { 103 } else { 0 };
+            let expected = if length % 8 != 0 || length > 8_192 {
+                102
+            } else if room < length {
+                103
+            } else {
+                0
+            };
             let status = lent::run(&mut lender.pool, &commands, &mut answers)?;
             if status != expected {
                 return Err(format!("{length} bytes of commands, room for {room}: {status} in place of {expected}"));

@@ -35,18 +35,28 @@ const TRIALS: [Trial; 15] = [
     ("damaged pools", damaged::damaged_pools),
 ];
 
+/// `--first-failure` leaves out what comes after a trial that failed.
 fn main() -> ExitCode {
-    let mut failed = 0;
+    let stops = std::env::args().any(|word| word == "--first-failure");
+    let (mut passed, mut failed) = (0, 0);
     for (name, trial) in TRIALS {
         let start = Instant::now();
         let outcome = trial();
         let seconds = start.elapsed().as_secs_f32();
-        match &outcome {
-            Ok(what) => println!("passed  {name}: {what} ({seconds:.1} s)"),
-            Err(why) => println!("FAILED  {name}: {why}"),
+        match outcome {
+            Ok(what) => {
+                println!("passed  {name}: {what} ({seconds:.1} s)");
+                passed += 1;
+            }
+            Err(why) => {
+                println!("FAILED  {name}: {why}");
+                failed += 1;
+            }
         }
-        failed += outcome.is_err() as usize;
+        if stops && failed > 0 {
+            break;
+        }
     }
-    println!("host's test: {} passed, {failed} failed", TRIALS.len() - failed);
+    println!("host's test: {passed} passed, {failed} failed");
     if failed == 0 { ExitCode::SUCCESS } else { ExitCode::FAILURE }
 }

@@ -88,7 +88,11 @@ pub fn run(pool: &mut Lent, commands: &Lent, answers: &mut Lent) -> Outcome<u32>
     if status != 0 {
         same("the pool of a refused call", old_pool.bytes(), pool.bytes())?;
         same("the answer room of a refused call", old_answers.bytes(), answers.bytes())?;
-        return if count == 0 { Ok(status) } else { Err(format!("a call refused with {status} counts {count} frames")) };
+        return if count == 0 {
+            Ok(status)
+        } else {
+            Err(format!("a call refused with {status} counts {count} frames"))
+        };
     }
     if count as usize != commands.len() / 8 {
         return Err(format!("{count} frames counted of {}", commands.len() / 8));

@@ -76,13 +76,13 @@ fn edge_lines() -> impl Iterator<Item = Vec<u8>> {
     let bases = [blank, b"      EQUIVALENCE(A,B)".to_vec(), b"      COMMON A".to_vec(), b"     ".to_vec(), Vec::new()];
     let columns = bases.into_iter().flat_map(|base| (0..80).map(move |column| (base.clone(), column)));
     let bytes = columns.flat_map(|(base, column)| {
-        (0..=255).filter_map(move |byte| {
+        (0..=255).map(move |byte| {
             let mut line = base.clone();
             if column >= line.len() {
                 line.resize(column + 1, b' ');
             }
             line[column] = byte;
-            Some(line)
+            line
         })
     });
     let ends = (0..80).flat_map(|indent| {
@@ -94,8 +94,26 @@ fn edge_lines() -> impl Iterator<Item = Vec<u8>> {
 /// Lines made of pieces that matter.
 fn random_lines() -> impl Iterator<Item = Vec<u8>> {
     let pieces: [&[u8]; 20] = [
-        b" ", b"     ", b"      ", b"C", b"*", b"0", b"1", b"EQUIVALENCE(", b"equiv", b"alence", b"EQUI", b"VALENCE", b"(",
-        b"COMMON", b"com", b"mon", b"A,B)", b"X=1", b"\t", b"                      ",
+        b" ",
+        b"     ",
+        b"      ",
+        b"C",
+        b"*",
+        b"0",
+        b"1",
+        b"EQUIVALENCE(",
+        b"equiv",
+        b"alence",
+        b"EQUI",
+        b"VALENCE",
+        b"(",
+        b"COMMON",
+        b"com",
+        b"mon",
+        b"A,B)",
+        b"X=1",
+        b"\t",
+        b"                      ",
     ];
     let mut dice = Dice::new(77);
     (0..60_000).map(move |_| {

@@ -76,7 +76,8 @@ fn ask_around(lender: &mut Lender, name: usize, length: usize) -> Outcome<u8> {
     let mut deepest = 0;
     for place in (1..=length).step_by(97) {
         let symbol = place % 16;
-        let asked = [frame(ACCESS, name, 0, place), frame(RANK, name, symbol, place), frame(SELECT, name, symbol, place / 16)];
+        let asked =
+            [frame(ACCESS, name, 0, place), frame(RANK, name, symbol, place), frame(SELECT, name, symbol, place / 16)];
         deepest = deepest.max(lender.call(&asked)?[0][3]);
     }
     Ok(deepest)

@@ -152,7 +152,7 @@ pub fn join_or_share(left: &mut Block, right: &mut Block) -> bool {
     false
 }
 
-/// The child that takes a place, the marks before it, and whether it is the first or a later one.
+/// The child that takes a place or an ordinal, and what the children before it add up to.
 pub struct Seat {
     pub child: usize,
     pub before: usize,

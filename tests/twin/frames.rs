@@ -220,16 +220,20 @@ impl<'a> Index<'a> {
         match command.code {
             ACCESS => {
                 let (symbol, depth) = tree::access(&self.pool, &record, number);
-                if cfg!(fault = "query_leaves_a_trace") {
-                    let root = &mut self.pool.blocks[record.root];
-                    root[layout::MOST_LEAF - 1] = if record.length < layout::MOST_LEAF { 1 } else { root[layout::MOST_LEAF - 1] };
-                }
+                self.leave_a_trace(&record);
                 Answer { symbol, depth: depth as u8, value: 0 }
             }
             RANK => Answer::value(tree::rank(&self.pool, &record, symbol, number)),
             SELECT => Answer::value(tree::select(&self.pool, &record, symbol, number)),
             LENGTH => Answer::value(record.length),
             _ => Answer::default(),
+        }
+    }
+
+    /// The fault of a query that writes, where no entry stands.
+    fn leave_a_trace(&mut self, record: &Record) {
+        if cfg!(fault = "query_leaves_a_trace") && record.length < layout::MOST_LEAF {
+            self.pool.blocks[record.root][layout::MOST_LEAF - 1] = 1;
         }
     }
 

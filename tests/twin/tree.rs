@@ -198,10 +198,7 @@ impl Edit<'_, '_> {
     fn mend_up(&mut self, path: &Path) {
         for level in 0..self.record.height {
             let step = path[self.record.height - 1 - level];
-            let has_left = step.child > 0 && !(cfg!(fault = "mends_with_the_right") && step.child == 1);
-            let first = if has_left { step.child - 1 } else { step.child };
-            let first = first.min(entries(&self.pool.blocks[step.block]) - 2);
-            let joined = self.mend(step.block, first, level);
+            let joined = self.mend(step.block, self.first_of_pair(step), level);
             if !joined || entries(&self.pool.blocks[step.block]) >= LEAST_BRANCH {
                 return;
             }
@@ -209,6 +206,12 @@ impl Edit<'_, '_> {
         if self.record.height > 0 {
             self.collapse();
         }
+    }
+
+    /// A short child is mended with its left neighbour, the first with its right one.
+    fn first_of_pair(&self, step: Step) -> usize {
+        let last_pair = entries(&self.pool.blocks[step.block]) - 2;
+        if cfg!(fault = "mends_with_the_right") { step.child.min(last_pair) } else { step.child.saturating_sub(1) }
     }
 
     /// Joins two neighbours or shares out what they have; whether they were joined.
