@@ -11,7 +11,7 @@ const FRAMES: usize = 2_500;
 
 /// Two runs with pools of different sizes and other neighbours: the same frames to one name get the same answers.
 pub fn same_for_name() -> Outcome<String> {
-    let mut answers = 0;
+    let (mut answers, mut deepest) = (0, 0);
     for seed in 0..40 {
         let name = seed as usize % NAMES;
         let frames = frames_of(seed, name);
@@ -27,13 +27,14 @@ pub fn same_for_name() -> Outcome<String> {
             ));
         }
         answers += first.len();
+        deepest = first.iter().map(|answer| answer[3]).fold(deepest, u8::max);
     }
-    Ok(format!("{answers} answers twice"))
+    Ok(format!("{answers} answers twice, depths up to {deepest}"))
 }
 
 /// Frames that name one name, made for a pool that has what it may open with.
 fn frames_of(seed: u64, name: usize) -> Vec<Frame> {
-    let style = Style { opening: 1, query: 30, wrong: 8, shares: RESERVE, reserve: 0 };
+    let style = Style { opening: 2, query: 300, wrong: 80, shares: RESERVE, reserve: 0 };
     let mut player = Player::new(seed, style, &[name]);
     let mut alone = Index::new(RESERVE);
     let mut frames = Vec::new();

@@ -11,7 +11,7 @@ enum Habit {
     Cursor,
 }
 
-/// What a player does, in percent; the rest are edits.
+/// What a player does, of a thousand frames; the rest are edits.
 #[derive(Clone, Copy)]
 pub struct Style {
     pub opening: usize,
@@ -23,9 +23,9 @@ pub struct Style {
     pub reserve: usize,
 }
 
-pub const MIXED: Style = Style { opening: 4, query: 30, wrong: 8, shares: 20, reserve: 0 };
-pub const EDITS: Style = Style { opening: 1, query: 10, wrong: 1, shares: 508, reserve: 0 };
-pub const CHURN: Style = Style { opening: 30, query: 15, wrong: 10, shares: 12, reserve: 0 };
+pub const MIXED: Style = Style { opening: 40, query: 300, wrong: 80, shares: 20, reserve: 0 };
+pub const EDITS: Style = Style { opening: 0, query: 100, wrong: 10, shares: 508, reserve: 0 };
+pub const CHURN: Style = Style { opening: 300, query: 150, wrong: 100, shares: 12, reserve: 0 };
 
 pub struct Player {
     pub dice: Dice,
@@ -56,7 +56,7 @@ impl Player {
     }
 
     pub fn next(&mut self, index: &Index) -> Frame {
-        let roll = self.dice.below(100);
+        let roll = self.dice.below(1000);
         let Style { opening, query, wrong, .. } = self.style;
         if roll < opening {
             self.open_or_close(index)

@@ -9,30 +9,48 @@ use crate::player::{CHURN, EDITS, MIXED, Player, Style};
 const POOLS: [usize; 8] = [1, 2, 5, 16, 40, 124, 300, 508];
 const BATCHES: [usize; 6] = [1, 2, 7, 60, 400, 1024];
 
-/// Sessions on pools of many sizes, in calls of many sizes; the pool is read after each call.
-pub fn random_sessions() -> Outcome<String> {
-    let mut frames = 0;
-    for (seed, shares) in (0..).zip(POOLS) {
-        for style in [MIXED, EDITS, CHURN] {
-            frames += session(seed, shares, style, 12_000)?;
-        }
-    }
-    Ok(format!("{frames} frames"))
+/// What sessions came to: how often each status was answered, the longest name and the greatest height.
+#[derive(Default)]
+struct Reach {
+    statuses: [usize; 13],
+    longest: usize,
+    highest: usize,
 }
 
-fn session(seed: u64, shares: usize, style: Style, many: usize) -> Outcome<usize> {
-    let named = |why| format!("session {seed} with {shares} shares: {why}");
-    let mut player = Player::of_all_names(seed, style);
+/// Sessions on pools of many sizes, in calls of many sizes; the pool is read after each call.
+pub fn random_sessions() -> Outcome<String> {
+    let mut reach = Reach::default();
+    for (seed, shares) in (0..).zip(POOLS) {
+        let all: Vec<usize> = (0..NAMES).collect();
+        for (style, names, many) in [(MIXED, &all[..], 12_000), (EDITS, &[4, 11], 40_000), (CHURN, &all, 12_000)] {
+            session(Player::new(seed, style, names), shares, many, &mut reach)?;
+        }
+    }
+    let Reach { statuses, longest, highest } = reach;
+    if statuses.contains(&0) || highest < 4 {
+        return Err(format!("the sessions reach too little: statuses {statuses:?}, height {highest}"));
+    }
+    let frames: usize = statuses.iter().sum();
+    Ok(format!("{frames} frames, statuses from 0 {statuses:?}, up to {longest} marks and height {highest}"))
+}
+
+fn session(mut player: Player, shares: usize, many: usize, reach: &mut Reach) -> Outcome<()> {
+    let named = |why| format!("{shares} shares: {why}");
     let mut lender = Lender::of_shares(shares)?;
     let mut frames = 0;
     while frames < many {
         let size = player.dice.pick(&BATCHES);
         let batch = player.batch(&lender.index, size);
-        lender.call(&batch).map_err(named)?;
-        lender.read().map_err(named)?;
+        for answer in lender.call(&batch).map_err(named)? {
+            reach.statuses[answer[0] as usize] += 1;
+        }
+        for name in lender.read().map_err(named)?.index.names.iter().flatten() {
+            reach.longest = reach.longest.max(name.marks.len());
+            reach.highest = reach.highest.max(name.tree.height());
+        }
         frames += size;
     }
-    Ok(frames)
+    Ok(())
 }
 
 /// One name with all 508 shares, to 12,192 marks and back to none, growing at either end or anywhere.
@@ -150,18 +168,32 @@ fn go_on_longer(lender: &Lender, player: &mut Player) -> Outcome<()> {
 /// Frame by frame: refused frames and queries change no byte, and no frame changes a byte of a block or
 /// of the record of a name that it doesn't name.
 pub fn others_untouched() -> Outcome<String> {
-    let mut frames = 0;
+    let neighbours = Style { opening: 5, query: 120, wrong: 40, shares: 30, reserve: 0 };
+    let all: Vec<usize> = (0..NAMES).collect();
+    let kinds = [(MIXED, &all[..], 40), (CHURN, &all, 16), (neighbours, &[1, 6, 12], 90), (neighbours, &[0, 15], 40)];
+    let (mut frames, mut beside_branches) = (0, 0);
     for seed in 0..24 {
-        let style = [MIXED, CHURN, EDITS][seed as usize % 3];
-        let mut player = Player::of_all_names(3000 + seed, Style { shares: 12, ..style });
-        let mut lender = Lender::of_shares([3, 16, 40, 90][seed as usize % 4])?;
-        for _ in 0..1_500 {
+        let (style, names, shares) = kinds[seed as usize % kinds.len()];
+        let mut player = Player::new(3000 + seed, style, names);
+        let mut lender = Lender::of_shares(shares)?;
+        for _ in 0..2_000 {
             let frame = player.next(&lender.index);
+            beside_branches += edits_beside_a_branch(&lender.index, &frame) as usize;
             lender.careful_call(&frame)?;
             frames += 1;
         }
     }
-    Ok(format!("{frames} frames"))
+    if beside_branches < 2_000 {
+        return Err(format!("only {beside_branches} edits stand beside another name's branches"));
+    }
+    Ok(format!("{frames} frames, {beside_branches} of them edits beside another name's branches"))
+}
+
+fn edits_beside_a_branch(index: &Index, frame: &Frame) -> bool {
+    let others = (0..NAMES).filter(|&name| name != frame[1] as usize).filter_map(|name| index.names[name].as_ref());
+    [INSERT, DELETE].contains(&frame[0])
+        && index.status(frame) == 0
+        && others.map(|name| name.tree.height()).max() > Some(0)
 }
 
 /// Every name has one share and no block is free: a name isn't full because of its neighbours.
