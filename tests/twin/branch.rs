@@ -64,6 +64,7 @@ pub fn count(block: &Block, child: usize, symbol: usize) -> usize {
     word(block, ENTRY_BYTES * child + COUNTS_AT + 2 * symbol)
 }
 
+#[inline]
 pub fn entry(block: &Block, child: usize) -> Entry {
     let at = ENTRY_BYTES * child;
     let words: &[u8; ENTRY_BYTES] = block[at..at + ENTRY_BYTES].try_into().expect("an entry's bytes");

@@ -89,27 +89,24 @@ impl Walk<'_> {
 }
 
 /// A leaf has the marks that its entry tells. Only symbols told are counted: if they add up to the leaf's
-/// size, all its marks are in the alphabet.
+/// size, all its marks are in the alphabet. Differences are gathered and looked at once.
 fn is_told(leaf: &Block, told: &Summary, alphabet: usize) -> bool {
     let many = entries(leaf);
-    let mut marks = [255; BLOCK_BYTES];
-    for (at, mark) in marks.iter_mut().enumerate() {
-        *mark = if (at as u8) < many as u8 { leaf[at] } else { 255 };
+    let mut marks = *leaf;
+    for (mark, &place) in marks.iter_mut().zip(&OFFSETS) {
+        *mark |= ((place >= many as u8) as u8).wrapping_neg();
     }
-    let mut sum = 0;
+    let (mut sum, mut wrong) = (0, told.marks ^ many as u16);
     for (symbol, &count) in told.counts.iter().enumerate() {
         if count != 0 {
-            let right = told_right(&marks, symbol as u8, count) || cfg!(fault = "check_skips_counts");
-            if symbol >= alphabet || !right {
-                return false;
-            }
+            wrong |= difference(&marks, symbol as u8, count) | (symbol >= alphabet) as u16;
             sum += count as usize;
         }
     }
-    sum == many && told.marks as usize == many
+    wrong == 0 && sum == many
 }
 
-fn told_right(marks: &Block, symbol: u8, count: u16) -> bool {
+fn difference(marks: &Block, symbol: u8, count: u16) -> u16 {
     let met = marks.iter().fold(0u8, |met, &mark| met + (mark == symbol) as u8);
-    met as u16 == count
+    if cfg!(fault = "check_skips_counts") { 0 } else { met as u16 ^ count }
 }

@@ -25,6 +25,17 @@ const ENTRIES_AT: usize = 126;
 pub type Block = [u8; BLOCK_BYTES];
 pub type RecordBytes = [u8; RECORD_BYTES];
 
+/// The offsets in a block, as bytes: a comparison with them stays as narrow as the marks.
+pub const OFFSETS: Block = {
+    let mut offsets = [0; BLOCK_BYTES];
+    let mut at = 0;
+    while at < BLOCK_BYTES {
+        offsets[at] = at as u8;
+        at += 1;
+    }
+    offsets
+};
+
 pub fn word<const N: usize>(bytes: &[u8; N], at: usize) -> usize {
     u16::from_le_bytes([bytes[at], bytes[at + 1]]) as usize
 }

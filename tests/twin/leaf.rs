@@ -6,8 +6,8 @@ use crate::layout::*;
 /// a fixed length and narrow counters.
 pub fn rank(block: &Block, symbol: u8, places: usize) -> usize {
     let mut met = 0u8;
-    for (at, &mark) in block.iter().enumerate() {
-        met += (mark == symbol && (at as u8) < places as u8) as u8;
+    for (&mark, &offset) in block.iter().zip(&OFFSETS) {
+        met += (mark == symbol) as u8 & (offset < places as u8) as u8;
     }
     met as usize
 }
