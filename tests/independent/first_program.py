@@ -27,15 +27,20 @@ class Difference(Exception):
 
 
 def run(program, data):
+    """What the program writes, and its exit status."""
     try:
-        return subprocess.run([program], input=data, stdout=subprocess.PIPE, timeout=6 * PATIENCE).stdout
+        ended = subprocess.run([program], input=data, stdout=subprocess.PIPE, timeout=6 * PATIENCE)
     except subprocess.TimeoutExpired as late:
         raise Difference("the program doesn't end") from late
+    return ended.stdout, ended.returncode
 
 
-def compare(label, data, wanted, got):
-    if got == wanted:
+def compare(label, data, wanted, result):
+    got, status = result
+    if got == wanted and status == 0:
         return
+    if got == wanted:
+        raise Difference(f"{label}: all is answered, and the exit status is {status}")
     lines, expected, given = data.split(b"\n"), wanted.split(b"\n"), got.split(b"\n")
     for k, line in enumerate(lines):
         want, have = (answers[k] if k < len(answers) else b"nothing" for answers in (expected, given))

@@ -55,7 +55,10 @@ impl Walk<'_> {
             return None;
         }
         let block = &self.blocks[number];
-        if !has_form(block) || !(least..=most).contains(&entries(block)) {
+        let form = has_form(block) || cfg!(fault = "check_skips_forms");
+        let strict = cfg!(fault = "check_refuses_junk_behind_marks") && most == MOST_LEAF;
+        let junk = strict && block[entries(block).min(MOST_LEAF)..MOST_LEAF].iter().any(|&byte| byte >= 16);
+        if !form || junk || !(least..=most).contains(&entries(block)) {
             return None;
         }
         self.map.hold(number, self.name);

@@ -264,6 +264,7 @@ impl<'a> Index<'a> {
     fn delete(&mut self, name: usize, place: usize) -> Answer {
         let record = self.pool.record(name);
         let symbol = self.edit(name, record).delete(place);
+        let symbol = if cfg!(fault = "delete_answers_no_mark") { 0 } else { symbol };
         Answer { symbol, depth: 0, value: record.length as u32 - 1 }
     }
 

@@ -211,7 +211,9 @@ impl Edit<'_, '_> {
     /// A short child is mended with its left neighbour, the first with its right one.
     fn first_of_pair(&self, step: Step) -> usize {
         let last_pair = entries(&self.pool.blocks[step.block]) - 2;
-        if cfg!(fault = "mends_with_the_right") { step.child.min(last_pair) } else { step.child.saturating_sub(1) }
+        let by_number = cfg!(fault = "shape_goes_by_block_numbers") && step.block % 2 == 1;
+        let right = cfg!(fault = "mends_with_the_right") || by_number;
+        if right { step.child.min(last_pair) } else { step.child.saturating_sub(1) }
     }
 
     /// Joins two neighbours or shares out what they have; whether they were joined.
