@@ -1,6 +1,6 @@
 #!/usr/bin/env bash
 # Prints the path of an archive that this machine's programs can link: the library's own on x86-64, elsewhere one whose calls run it
-# under the kit's emulator. tests/emulated/build.sh [ARCHIVE]
+# under the kit's emulator. tests/emulated/library.sh [ARCHIVE]
 set -euo pipefail
 here=$(cd "$(dirname "$0")" && pwd)
 archive=$(realpath "${1:-$here/../../target/staticlib/libforfochry.a}")
