@@ -7,7 +7,7 @@ use crate::names::check_names;
 use crate::names::promised;
 use geometry::Record;
 
-mod blocks;
+mod block;
 mod directory;
 mod names;
 mod summaries;
