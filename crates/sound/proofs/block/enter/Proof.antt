@@ -1,9 +1,9 @@
--- `sound::blocks::enter` meets its contract: one law for each test that refuses a block, and one for a block that passes them all.
+-- `sound::block::enter` meets its contract: one law for each test that refuses a block, and one for a block that passes them all.
 -- Assumes nothing.
 use borrow.Author.Needs.{needs}
 use Rattle.sound.proofs.Entering.{outside, met-before, other-form, too-few, too-many, entered}
-use Rattle.sound.proofs.blocks.enter.Statement.{statement}
-use Rattle.sound.proofs.blocks.enter.Tie as tie
+use Rattle.sound.proofs.block.enter.Statement.{statement}
+use Rattle.sound.proofs.block.enter.Tie as tie
 
 sub-if1 : tie.Need-sub-if1
 sub-if1 c = search needs

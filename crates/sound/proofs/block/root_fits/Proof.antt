@@ -1,9 +1,9 @@
--- `sound::blocks::root_fits` meets its contract, for a root that is a leaf and for one that isn't.
+-- `sound::block::root_fits` meets its contract, for a root that is a leaf and for one that isn't.
 -- Assumes nothing.
 use borrow.Author.Needs.{needs}
 use Rattle.sound.proofs.Leaves.{branch-fit, leaf-fit, leaf-few}
-use Rattle.sound.proofs.blocks.root_fits.Statement.{statement}
-use Rattle.sound.proofs.blocks.root_fits.Tie as tie
+use Rattle.sound.proofs.block.root_fits.Statement.{statement}
+use Rattle.sound.proofs.block.root_fits.Tie as tie
 
 returns : tie.Need-returns
 returns c = search branch-fit

@@ -1,10 +1,10 @@
--- `sound::blocks::marks_below` meets its contract. The loop's invariant: the marks passed are below the alphabet's size.
+-- `sound::block::marks_below` meets its contract. The loop's invariant: the marks passed are below the alphabet's size.
 -- Assumes nothing.
 use borrow.Author.Needs.{needs}
 use Prim.Native.Nat.{_-_, _≤_}
 use Rattle.sound.proofs.Leaves.{BelowTo, below-start, below-next, below-all, below-not}
-use Rattle.sound.proofs.blocks.marks_below.Statement.{statement}
-use Rattle.sound.proofs.blocks.marks_below.Tie as tie
+use Rattle.sound.proofs.block.marks_below.Statement.{statement}
+use Rattle.sound.proofs.block.marks_below.Tie as tie
 
 abbrev Inv-loop : tie.InvT-loop
 Inv-loop pool b many alphabet at i₀ i = (i ≤ many) × BelowTo pool b alphabet i

@@ -1,8 +1,8 @@
--- `sound::blocks::least_of_root` meets its contract, at level 0 and above it.
+-- `sound::block::least_of_root` meets its contract, at level 0 and above it.
 -- Assumes nothing.
 use Rattle.sound.proofs.Levels.{root-leaf, root-branch}
-use Rattle.sound.proofs.blocks.least_of_root.Statement.{statement}
-use Rattle.sound.proofs.blocks.least_of_root.Tie as tie
+use Rattle.sound.proofs.block.least_of_root.Statement.{statement}
+use Rattle.sound.proofs.block.least_of_root.Tie as tie
 
 returns : tie.Need-returns
 returns c = search root-leaf

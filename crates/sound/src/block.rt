@@ -9,41 +9,20 @@ ghost use Rattle.pool.specs.Bytes.{shares};
 ghost use Rattle.pool.specs.Sound.{SoundBlock};
 ghost use Rattle.sequence.specs.Alphabet.{AllBelow};
 ghost use Rattle.shape.specs.Fill.{rootLeast};
-ghost use Rattle.shape.specs.Sizes.{oneToAByte, least, most};
+ghost use Rattle.shape.specs.Sizes.{oneToAByte, most};
 ghost use Rattle.sound.specs.Maps.{Walked};
 ghost use Rattle.sound.specs.Parts.{MarksFit};
 ghost use Rattle.sound.specs.Says.{Says};
 ghost use mathlib.Core.List.{[], _∷_};
 use entries::entry_count;
+use entries::most_entries;
 use geometry::Record;
-
-// The entries that a block of a level has at least, where it is no root.
-pub fn least_entries(level: usize) -> usize
-    ensures { λ r. ⌜ r ≡ least oneToAByte level ⌝ }
-{
-    if level == 0 {
-        Record::LEAST_LEAF
-    } else {
-        Record::LEAST_BRANCH
-    }
-}
 
 // The entries that a root of a level has at least.
 pub fn least_of_root(level: usize) -> usize
     ensures { λ r. ⌜ r ≡ rootLeast level ⌝ }
 {
     if level == 0 { 0 } else { Record::LEAST_BRANCH }
-}
-
-// The entries that a block of a level has at most.
-fn most_entries(level: usize) -> usize
-    ensures { λ r. ⌜ r ≡ most oneToAByte level ⌝ }
-{
-    if level == 0 {
-        Record::MOST_LEAF
-    } else {
-        Record::MOST_BRANCH
-    }
 }
 
 // Whether a block is one of the pool's that nobody holds yet, of the right form and number of entries. It is then marked.
