@@ -2,8 +2,8 @@
 -- Assumes nothing.
 use mathlib.Core.Bool.{Bool, true, false, cond, not, _&&_, _||_}
 use mathlib.Core.List.{List}
-use mathlib.Core.Logic.{_⊎_, _≢_, ⊎-elim}
-use mathlib.Core.Path.{_≡_, refl, sym, ap, subst, _∙_}
+use mathlib.Core.Logic.{_⊎_, ⊎-elim}
+use mathlib.Core.Path.{_≡_, sym, ap, _∙_}
 use Prim.Native.Nat.{ℕ, _+_, _*_, _≤_, _<_}
 use native.Mathlib.Omega.{arith}
 use borrow.Author.Tests.{eq-eqb, ne-eqb, le-leb, lt-leb, lt-ltb, le-ltb}
@@ -15,8 +15,7 @@ use Rattle.pool.proofs.Meanings.{unpromised-meaning}
 use Rattle.pool.specs.Meaning.{meaningOf, meaning}
 use Rattle.pool.specs.Names.{recordOf, treeOf}
 use Rattle.pool.specs.Shares.{unpromisedShares}
-use Rattle.pool.specs.Sound.{OpenName, Sound}
-use Rattle.protocol.specs.Commands.{openCode, closeCode, insertCode, deleteCode, accessCode, rankCode, selectCode, lengthCode, unpromisedCode}
+use Rattle.protocol.specs.Commands.{openCode, insertCode, deleteCode, accessCode, rankCode, selectCode, unpromisedCode}
 use Rattle.protocol.specs.State.{Part, closed, opened, isOpen, partOf, unpromised}
 use Rattle.protocol.specs.declared.Command.{Command}
 use Rattle.sequence.specs.Definition1.{count}

@@ -4,24 +4,20 @@ ghost use mathlib.Core.Logic.{_⊎_};
 ghost use mathlib.Core.Path.{_≡_};
 ghost use Prim.Native.Nat.{_<_};
 ghost use lib.Dec.{eqb};
-ghost use Rattle.geometry.specs.Limits.{names, mostAlphabet};
+ghost use Rattle.geometry.specs.Limits.{names};
 ghost use Rattle.machine.specs.Machine.{trees};
 ghost use Rattle.pool.specs.Meaning.{meaningOf};
-ghost use Rattle.pool.specs.Names.{treeOf};
 ghost use Rattle.pool.specs.Shares.{unpromisedShares};
-ghost use Rattle.pool.specs.Sound.{OpenName, Sound};
+ghost use Rattle.pool.specs.Sound.{Sound};
 ghost use Rattle.protocol.specs.Commands.{insertCode, deleteCode, accessCode, rankCode, selectCode, rows, rowOf};
 ghost use Rattle.protocol.specs.Refusals.{listed, isNameAllowed, isUnusedZero};
 ghost use Rattle.protocol.specs.State.{isOpen};
-ghost use Rattle.sequence.specs.Definition1.{count};
-ghost use Rattle.shape.specs.Trees.{marksT};
 ghost use Rattle.frames.specs.Statuses.{statusIn, Opening, Naming, Asking};
 use geometry::Record;
 use pool::read_record;
 use protocol::Answer;
 use protocol::Command;
-use query::length;
-use query::rank;
+use query::count;
 use sound::promised;
 
 // The name byte of the command that names none.
@@ -255,16 +251,8 @@ fn selection_status(pool: &[u8], c: Command) -> u8
     if c.number == 0 {
         return Answer::ORDINAL_OUTSIDE;
     }
-    if c.number as usize > count_of(pool, c.name as usize, c.symbol) {
+    if c.number as usize > count(pool, c.name as usize, c.symbol) {
         return Answer::ORDINAL_OUTSIDE;
     }
     0
-}
-
-// How many marks c an open name has.
-fn count_of(pool: &[u8], name: usize, c: u8) -> usize
-    requires { ⌜ (name < names) × OpenName (now pool) name × (c < mostAlphabet) ⌝ }
-    ensures { λ r. ⌜ r ≡ count c (marksT (treeOf (now (pool .entry)) name)) ⌝ }
-{
-    rank(pool, name, c, length(pool, name))
 }
