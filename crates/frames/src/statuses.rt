@@ -1,9 +1,9 @@
 // The status of a command: document 01's tests in their order, and 0 where none applies.
-ghost use mathlib.Core.Bool.{true, _||_};
+ghost use mathlib.Core.Bool.{true, _&&_, _||_};
 ghost use mathlib.Core.Logic.{_⊎_};
 ghost use mathlib.Core.Path.{_≡_};
 ghost use Prim.Native.Nat.{_<_};
-ghost use lib.Dec.{eqb};
+ghost use lib.Dec.{eqb, leb};
 ghost use Rattle.geometry.specs.Limits.{names};
 ghost use Rattle.machine.specs.Machine.{trees};
 ghost use Rattle.pool.specs.Meaning.{meaningOf};
@@ -188,6 +188,16 @@ fn named_status(pool: &[u8], c: Command) -> u8
     0
 }
 
+// Whether a number is a place of a range.
+fn is_place(number: u32, first: u32, last: u32) -> bool
+    ensures { λ r. ⌜ r ≡ (leb first number && leb number last) ⌝ }
+{
+    if number < first {
+        return false;
+    }
+    number <= last
+}
+
 // The status of an insert into an open name.
 fn insertion_status(pool: &[u8], c: Command) -> u8
     requires { ⌜ Asking (now pool) c × (c .code ≡ insertCode) ⌝ }
@@ -197,10 +207,7 @@ fn insertion_status(pool: &[u8], c: Command) -> u8
     if c.symbol >= found.alphabet {
         return Answer::SYMBOL_OUTSIDE;
     }
-    if c.number == 0 {
-        return Answer::PLACE_OUTSIDE;
-    }
-    if c.number > found.length as u32 + 1 {
+    if !is_place(c.number, 1, found.length as u32 + 1) {
         return Answer::PLACE_OUTSIDE;
     }
     if found.length as usize == Record::MARKS_PER_SHARE * (found.q as usize) {
@@ -215,10 +222,7 @@ fn place_status(pool: &[u8], c: Command) -> u8
     ensures { λ r. ⌜ r ≡ statusIn (now (pool .entry)) c ⌝ }
 {
     let found = read_record(pool, c.name as usize);
-    if c.number == 0 {
-        return Answer::PLACE_OUTSIDE;
-    }
-    if c.number > found.length as u32 {
+    if !is_place(c.number, 1, found.length as u32) {
         return Answer::PLACE_OUTSIDE;
     }
     0
@@ -233,7 +237,7 @@ fn rank_status(pool: &[u8], c: Command) -> u8
     if c.symbol >= found.alphabet {
         return Answer::SYMBOL_OUTSIDE;
     }
-    if c.number > found.length as u32 {
+    if !is_place(c.number, 0, found.length as u32) {
         return Answer::PLACE_OUTSIDE;
     }
     0
