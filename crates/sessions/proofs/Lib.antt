@@ -1,0 +1,8 @@
+pub mod Cut
+pub mod Digits
+pub mod Framed
+pub mod Ran
+pub mod Completed
+pub mod Reading
+pub mod Following
+pub mod Examples
