@@ -1,2 +1,4 @@
 pub mod Runs
 pub mod Calls
+pub mod Frames
+pub mod Alike

@@ -9,3 +9,4 @@ pub mod KeptParts
 pub mod Settles
 pub mod ChildDeletes
 pub mod LevelDeletes
+pub mod RootShrinks

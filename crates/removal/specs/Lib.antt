@@ -1,3 +1,4 @@
 pub mod Frees
 pub mod Removals
 pub mod Mends
+pub mod Trees

@@ -4,5 +4,8 @@ mod map;
 mod mends;
 mod nodes;
 mod pairs;
+mod tree;
 
 pub use deletes::delete_in;
+pub use tree::Removed;
+pub use tree::delete_in_tree;

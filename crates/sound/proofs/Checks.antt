@@ -2,7 +2,7 @@
 -- Assumes nothing.
 use mathlib.Core.Bool.{Bool, true, false}
 use mathlib.Core.List.{List}
-use mathlib.Core.Path.{_≡_, refl}
+use mathlib.Core.Path.{_≡_, refl, _∙_}
 use Prim.Native.Nat.{ℕ, zero, suc, _+_, _≤_, _<_}
 use native.Mathlib.Omega.{arith}
 use lib.ListN.{length, getD, replicate}
@@ -17,7 +17,7 @@ use Rattle.sound.specs.Maps.{New, mapTo, WalkedNames}
 use Rattle.sound.specs.Parts.{SoundName, Checked}
 use Rattle.sound.specs.Says.{Says}
 use Rattle.sound.proofs.Deciding.{never, say-no, say-same, denied}
-use Rattle.sound.proofs.Holders.{name-inside, held-apart, apart-new, map-of}
+use Rattle.sound.proofs.Holders.{map-length, name-inside, held-apart, apart-new, map-of}
 
 -- a map of zeros is clear
 pub zeros-clear : (n b : ℕ) → getD {A = ℕ} (replicate n 0) b 0 ≡ 0
@@ -26,7 +26,7 @@ zeros-clear (suc n) zero = refl
 zeros-clear (suc n) (suc b) = zeros-clear n b
 
 refused : (p after : List ℕ) → (Sound p → ⊥) → Checked p false after
-refused p after not = record { says = say-no not; holders = never }
+refused p after not = record { says = say-no not; long = never; holders = never }
 
 module _ (p after : List ℕ) where
   module _ (r : Bool) (allowed : Says r (LengthAllowed (length p))) where
@@ -73,5 +73,6 @@ module _ (p after : List ℕ) where
             promised = omega arith;
           })
           (λ s name low. (s .each name low, apart-new p fresh clear (s .apart) name low)) (walked .says);
+      long = λ e. rw (walked .met e) (map-length p fresh clear names ∙ long);
       holders = λ e. rw (walked .met e) (map-of p fresh clear (apart (walked .says .sound e)) short);
     }

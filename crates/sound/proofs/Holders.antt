@@ -36,7 +36,7 @@ pub name-inside : (p : List ℕ) (name : ℕ) → SoundName p name → AllBelow 
 name-inside p name sound = ⊎-elim (λ closed. rw (closed-blocks p name closed) tt) (λ o. open-inside p name o) sound
 
 module _ (p map : List ℕ) (clear : (b : ℕ) → getD map b 0 ≡ 0) where
-  map-length : (n : ℕ) → length (mapTo p map n) ≡ length map
+  pub map-length : (n : ℕ) → length (mapTo p map n) ≡ length map
   map-length zero = refl
   map-length (suc n) = meet-length (n + 1) (mapTo p map n) (blocksOf p n) ∙ map-length n
 

@@ -5,8 +5,9 @@ use mathlib.Core.List.{List}
 use mathlib.Core.Logic.{_⊎_}
 use mathlib.Core.Path.{_≡_}
 use Prim.Native.Nat.{ℕ, zero, suc, _+_, _*_, _≤_, _<_}
+use lib.ListN.{length}
 use Rattle.geometry.specs.Layout as Layout
-use Rattle.geometry.specs.Limits.{leastAlphabet, mostAlphabet, marksPerShare}
+use Rattle.geometry.specs.Limits.{leastAlphabet, mostAlphabet, marksPerShare, mostShares}
 use Rattle.sequence.specs.Alphabet.{AllBelow}
 use Rattle.sequence.specs.Definition1.{count}
 use Rattle.shape.specs.Sizes.{oneToAByte, least}
@@ -77,4 +78,5 @@ SoundName p name = ClosedName p name ⊎ OpenName p name
 -- the whole check: exact, and where the pool is sound the map says who holds each block
 pub record Checked (p : List ℕ) (r : Bool) (map : List ℕ) : Type 0 where
   pub says : Says r (Sound p)
+  pub long : r ≡ true → length map ≡ mostShares
   pub holders : r ≡ true → MapOf p map

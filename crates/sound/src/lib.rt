@@ -4,7 +4,6 @@ ghost use Rattle.sound.specs.Parts.{Checked};
 ghost use Rattle.sound.specs.Says.{Says};
 use crate::directory::header_sound;
 use crate::names::check_names;
-use crate::names::promised;
 use geometry::Record;
 
 mod blocks;
@@ -13,8 +12,10 @@ mod names;
 mod summaries;
 mod walk;
 
+pub use names::promised;
+
 // Whether a pool may have so many bytes.
-fn length_allowed(bytes: usize) -> bool
+pub fn length_allowed(bytes: usize) -> bool
     ensures { λ r. ⌜ Says r (LengthAllowed bytes) ⌝ }
 {
     if bytes % Record::BLOCK_SIZE != 0 {

@@ -1,0 +1,9 @@
+pub mod Codes
+pub mod Parts
+pub mod Forms
+pub mod Tests
+pub mod Refused
+pub mod Counts
+pub mod Effects
+pub mod Answering
+pub mod Stepping

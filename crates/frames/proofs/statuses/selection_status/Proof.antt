@@ -1,0 +1,47 @@
+-- `frames::statuses::selection_status` meets its contract: one law for each status that a select can get.
+-- Assumes nothing.
+use Rattle.frames.proofs.Refused.{select-symbol, select-counts, select-zero, select-past, select-passes}
+use borrow.Author.Needs.{needs}
+use Rattle.frames.proofs.statuses.selection_status.Statement.{statement}
+use Rattle.frames.proofs.statuses.selection_status.Tie as tie
+
+cast-read-record : tie.Need-cast-read-record
+cast-read-record c = search needs
+
+read-record-requires : tie.Need-read-record-requires
+read-record-requires c κs = search needs
+
+returns : tie.Need-returns
+returns c = search select-symbol
+
+returns-2 : tie.Need-returns-2
+returns-2 c = search select-zero
+
+cast-if3 : tie.Need-cast-if3
+cast-if3 c = search needs
+
+cast-count-of : tie.Need-cast-count-of
+cast-count-of c = search needs
+
+count-of-requires : tie.Need-count-of-requires
+count-of-requires c κs = (search needs, search needs, search select-counts)
+
+returns-3 : tie.Need-returns-3
+returns-3 c = search select-past
+
+returns-4 : tie.Need-returns-4
+returns-4 c = search select-passes
+
+pub selection-status-spec : {M : Type 1} → statement M
+selection-status-spec =
+    tie.close
+    (tie.spec
+    cast-read-record
+    read-record-requires
+    returns
+    returns-2
+    cast-if3
+    cast-count-of
+    count-of-requires
+    returns-3
+    returns-4)

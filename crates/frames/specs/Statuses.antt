@@ -1,0 +1,60 @@
+-- The status of a command on a pool, and what is known of the command where the later tests are made.
+-- Assumes nothing.
+use mathlib.Core.Bool.{true}
+use mathlib.Core.List.{List}
+use mathlib.Core.Logic.{_≢_}
+use mathlib.Core.Path.{_≡_}
+use Prim.Native.Nat.{ℕ, _<_}
+use Rattle.geometry.specs.Limits.{names}
+use Rattle.machine.specs.Machine.{trees}
+use Rattle.pool.specs.Meaning.{meaning}
+use Rattle.pool.specs.Sound.{OpenName, Sound}
+use Rattle.protocol.specs.Commands.{openCode, unpromisedCode}
+use Rattle.protocol.specs.Refusals.{statusOf, listed, isNameAllowed, isUnusedZero}
+use Rattle.protocol.specs.Respond.{respond}
+use Rattle.protocol.specs.State.{partOf, unpromised}
+use Rattle.protocol.specs.declared.Answer.{Answer}
+use Rattle.protocol.specs.declared.Command.{Command}
+
+-- the machine's status of a command, by what the pool means
+abbrev pub statusIn : List ℕ → Command → ℕ
+statusIn p c = statusOf trees (unpromised (meaning p)) (partOf (meaning p) (c .name)) c
+
+-- the statuses 1 to 3 don't apply to the command
+pub record WellFormed (c : Command) : Type 0 where
+  pub known : listed trees (c .code) ≡ true
+  pub name : isNameAllowed c ≡ true
+  pub unused : isUnusedZero trees c ≡ true
+
+-- nor do they to an opening
+pub record Opening (p : List ℕ) (c : Command) : Type 0 where
+  pub sound : Sound p
+  pub formed : WellFormed c
+  pub code : c .code ≡ openCode
+
+-- nor to a command to a name that must be open
+pub record Naming (p : List ℕ) (c : Command) : Type 0 where
+  pub sound : Sound p
+  pub formed : WellFormed c
+  pub opens : c .code ≢ openCode
+  pub named : c .code ≢ unpromisedCode
+
+-- nor to a command to a name that is open
+pub record Asking (p : List ℕ) (c : Command) : Type 0 where
+  pub formed : WellFormed c
+  pub sound : Sound p
+  pub low : c .name < names
+  pub opened : OpenName p (c .name)
+
+-- a command that nothing refuses
+pub record Accepted (p : List ℕ) (c : Command) : Type 0 where
+  pub sound : Sound p
+  pub status : statusIn p c ≡ 0
+
+-- the machine's answer to a command
+abbrev pub answerOf : List ℕ → Command → Answer
+answerOf p c = respond trees (meaning p) c .answer
+
+-- the answer of status 0 to a command that tells a value alone
+abbrev pub valueTo : Command → ℕ → Answer
+valueTo c value = record { status = 0; name = c .name; symbol = 0; depth = 0; value = value }

@@ -1,0 +1,7 @@
+pub mod Following
+pub mod Keeping
+pub mod Outcomes
+pub mod Cutting
+pub mod Progress
+pub mod Formatting
+pub mod Calling

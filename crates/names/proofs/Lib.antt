@@ -1,0 +1,5 @@
+pub mod ExactMaps
+pub mod NameChanges
+pub mod HoldersFreed
+pub mod OpenedNames
+pub mod ClosedNames

@@ -1,0 +1,3 @@
+pub mod TreesReady
+pub mod NewTrees
+pub mod NameEdits
