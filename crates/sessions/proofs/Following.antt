@@ -2,7 +2,7 @@
 -- before them, they are the session so far.
 -- Assumes nothing.
 use mathlib.Core.Bool.{Bool, true, false}
-use mathlib.Core.Logic.{_⊎_, inl, inr}
+use mathlib.Core.Logic.{inr}
 use mathlib.Core.Path.{_≡_, refl, sym, ap, ap₂, _∙_}
 use mathlib.Core.List.{List, [], _∷_, _++_, map, map-append, append-nil, append-assoc}
 use Prim.Native.Nat.{ℕ, _+_, _-_, _*_, _/_, _%_, _≤_, _<_}
@@ -12,9 +12,11 @@ use lib.Seq.{length-take-le}
 use Rattle.geometry.specs.Limits.{frameSize, longestCommands, programPool, directorySize, blockSize}
 use Rattle.hex.specs.Lines.{frameOf, lineSize}
 use Rattle.hex.specs.declared.read.Reading.{Reading}
-use Rattle.index.specs.Calls.{Formats, CommandsAllowed, StatusOfCall, Answered, Ran}
+use Rattle.index.specs.Calls.{Formats, Answered, Ran}
 use Rattle.index.specs.Runs.{commandsIn}
 use Rattle.index.specs.declared.Outcome.{Outcome}
+use Rattle.index.proofs.Following.{runs-sound}
+use Rattle.index.proofs.Outcomes.{one-status, room-by-machine, meaning-by-machine}
 use Rattle.lines.specs.Lines.{Stands, Holds, Finishes, ended, left, linesOf, lastLine}
 use Rattle.lines.specs.declared.Gathered.{Gathered}
 use Rattle.lines.proofs.Cut.{ended-append, left-append}
@@ -27,7 +29,6 @@ use Rattle.pool.proofs.FormattedSound.{length-formatted, formatted-sound, forma
 use Rattle.protocol.specs.Frames.{bytesOfAnswer}
 use Rattle.protocol.specs.Respond.{answersTo, stateAfter}
 use Rattle.protocol.specs.State as State
-use Rattle.protocol.specs.declared.Answer.{Answer}
 use Rattle.shape.specs.Nested.{joined}
 use Rattle.shape.specs.Trees.{Tree}
 use Rattle.shape.proofs.Folds.{joined-append}
@@ -39,16 +40,6 @@ use Rattle.sessions.specs.declared.batch.Batch.{Batch}
 use Rattle.sessions.proofs.Completed.{kept-in-drafts, completed-drafts, state-after-lines}
 use Rattle.sessions.proofs.Cut.{frame-of-held}
 use Rattle.sessions.proofs.Framed.{commandsOf, commands-in-batch, fits-lines, length-of-batch}
-use Rattle.sessions.proofs.Ran.{ComesTo, comes-to}
-
--- a call with a sound pool and what it needs is accepted
-accepted : (p commands room : List ℕ) (status : ℕ) → StatusOfCall p commands room status → Sound p → CommandsAllowed (length commands)
-    → length commands ≤ length room → status ≡ 0
-accepted p commands room status (inl r) sound allowed fits = absurd (r .1 (sound .allowed))
-accepted p commands room status (inr (inl r)) sound allowed fits = absurd (r .2 allowed)
-accepted p commands room status (inr (inr (inl r))) sound allowed fits = absurd (r .3 fits)
-accepted p commands room status (inr (inr (inr (inl r)))) sound allowed fits = absurd (r .4 sound)
-accepted p commands room status (inr (inr (inr (inr r)))) sound allowed fits = r .0
 
 -- what is at the front of a buffer, in front of its rest
 front-and-rest : (out front : List ℕ) (n : ℕ) → take n out ≡ front → out ≡ front ++ drop n out
@@ -57,10 +48,8 @@ front-and-rest out front n is = sym (take-append-drop n out) ∙ ap (λ l. l ++ 
 module _ (p q commands room answers out out' : List ℕ) (lines : ℕ) (r : Outcome) (ran : Ran p commands room r q answers) (asks : Asks commands out lines)
     (fits : length commands ≤ length room) (done : Completes lines out out' answers) where
   answered : Sound p → Answered p commands room q answers (r .count)
-  answered sound = ran .accepted (accepted p commands room (r .status) (ran .status) sound (asks .allowed) fits)
-
-  comes : (sound : Sound p) → ComesTo p (commandsIn commands) (answered sound .answers) q
-  comes sound = comes-to (commandsIn commands) p (answered sound .answers) q sound (answered sound .runs)
+  answered sound =
+      ran .accepted (one-status p commands room (r .status) 0 (ran .status) (inr (inr (inr (inr (refl, sound .allowed, asks .allowed, fits, sound))))))
 
   -- the commands are those of the lines that are frames
   frames-run : (ls : List (List ℕ)) → commands ≡ joined bytesOf (map frameOf ls) → commandsIn commands ≡ commandsOf (map frameOf ls)
@@ -71,10 +60,10 @@ module _ (p q commands room answers out out' : List ℕ) (lines : ℕ) (r : Outc
   lines-answered =
       record {
         long = done .long;
-        sound = λ sound. comes sound .sound;
+        sound = λ sound. runs-sound (commandsIn commands) p q (answered sound .answers) sound (answered sound .runs);
         state =
             λ ls is sound.
-            comes sound .state ∙ ap (stateAfter trees (meaning p)) (frames-run ls is) ∙ sym (state-after-lines (map frameOf ls) (meaning p));
+            meaning-by-machine p commands room q answers (r .count) (answered sound) ∙ ap (stateAfter trees (meaning p)) (frames-run ls is) ∙ sym (state-after-lines (map frameOf ls) (meaning p));
         answers = all-answered;
       }
     where
@@ -84,8 +73,8 @@ module _ (p q commands room answers out out' : List ℕ) (lines : ℕ) (r : Outc
       all-answered ls is many drafts sound =
           let rs : List Reading = map frameOf ls in
           let given : answers ≡ joined bytesOfAnswer (answersTo trees (meaning p) (commandsOf rs)) ++ drop (length commands) room =
-          answered sound .front
-          ∙ ap (λ found. joined bytesOfAnswer found ++ drop (length commands) room) (comes sound .answers ∙ ap (answersTo trees (meaning p)) (frames-run ls is))
+          room-by-machine p commands room q answers (r .count) (answered sound)
+          ∙ ap (λ cs. joined bytesOfAnswer (answersTo trees (meaning p) cs) ++ drop (length commands) room) (frames-run ls is)
           in
           let count : lines ≡ length rs = many ∙ sym (length-map ls frameOf) in
           done .whole

@@ -8,7 +8,7 @@ use native.Mathlib.Omega.{arith}
 use borrow.Author.Tests.{eqb-true}
 use lib.Dec.{eqb}
 use lib.ListN.{length, take, drop, length-append, length-take, length-drop}
-use lib.Seq.{take-at, drop-append-add}
+use lib.Seq.{take-all}
 use Rattle.geometry.specs.Limits.{frameSize}
 use Rattle.hex.specs.Digits.{allDigits, numberOf}
 use Rattle.hex.specs.Lines.{frameOf, spelled, lineDigits, isFrame}
@@ -17,6 +17,7 @@ use Rattle.hex.specs.declared.read.Reading.the-variants.{Frame, Bad}
 use Rattle.hex.proofs.Frames.{all-digits-part}
 use Rattle.hex.proofs.Numbers.{first-of-both, second-of-both, number-fits}
 use Rattle.index.specs.Runs.{commandsIn}
+use Rattle.index.proofs.Cutting.{commands-append}
 use Rattle.pool.specs.Bytes.{from}
 use Rattle.protocol.specs.Frames.{commandOf, eightBytes, bytesOfCommand, Fitting}
 use Rattle.protocol.specs.declared.Command.{Command}
@@ -68,33 +69,21 @@ fits-line line = go (isFrame line) (λ is. second-of-both (eqb (length line) lin
     go true digits = fits-spelled line (digits refl)
     go false digits = tt
 
-from-next : {A : Type 0} (f g : ℕ → A) (k n : ℕ) → ((i : ℕ) → f (suc i) ≡ g i) → from f (suc k) n ≡ from g k n
-unfolding from
-from-next f g k zero e = refl
-from-next f g k (suc n) e = ap₂ (λ x xs. x ∷ xs) (e k) (from-next f g (suc k) n e)
-
--- eight bytes in front are the first command
-commands-in-cons : (first rest : List ℕ) → length first ≡ frameSize → commandsIn (first ++ rest) ≡ commandOf first ∷ commandsIn rest
+-- eight bytes are one command
+one-command : (bytes : List ℕ) → length bytes ≡ frameSize → commandsIn bytes ≡ commandOf bytes ∷ []
 unfolding commandsIn from
-commands-in-cons first rest long =
-    let many : length (first ++ rest) / frameSize ≡ suc (length rest / frameSize) = omega (arith, length-append first rest) in
-    rw many
-    (ap₂ (λ x xs. x ∷ xs) (ap commandOf (take-at first rest frameSize long))
-    (from-next (λ k. commandOf (take frameSize (drop (frameSize * k) (first ++ rest)))) (λ k. commandOf (take frameSize (drop (frameSize * k) rest))) 0
-    (length rest / frameSize) next))
-  where
-    next : (i : ℕ) → commandOf (take frameSize (drop (frameSize * suc i) (first ++ rest))) ≡ commandOf (take frameSize (drop (frameSize * i) rest))
-    next i =
-        let e : frameSize * suc i ≡ length first + frameSize * i = omega arith in
-        ap (λ l. commandOf (take frameSize l)) (ap (λ k. drop k (first ++ rest)) e ∙ drop-append-add first rest (frameSize * i))
+one-command bytes long = rw long (ap (λ l. commandOf l ∷ []) (take-all frameSize bytes (omega arith)))
 
 -- the bytes of lines are the commands of their frames
 pub commands-in-batch : (rs : List Reading) → AllFit rs → commandsIn (joined bytesOf rs) ≡ commandsOf rs
 unfolding commandsIn from bytesOfCommand
 commands-in-batch [] fits = refl
 commands-in-batch (Frame code name symbol fourth number ∷ rs) fits =
-    commands-in-cons (eightBytes code name symbol fourth number) (joined bytesOf rs) refl
-    ∙ ap₂ (λ x xs. x ∷ xs) (command-of-bytes (commandFrom code name symbol fourth number) (fits .0)) (commands-in-batch rs (fits .1))
+    let bytes : List ℕ = eightBytes code name symbol fourth number in
+    commands-append bytes (joined bytesOf rs) refl
+    ∙ ap₂ (λ xs ys. xs ++ ys)
+    (one-command bytes refl ∙ ap (λ c. c ∷ []) (command-of-bytes (commandFrom code name symbol fourth number) (fits .0)))
+    (commands-in-batch rs (fits .1))
 commands-in-batch (Bad ∷ rs) fits = commands-in-batch rs (fits .1)
 
 pub fits-lines : (lines : List (List ℕ)) → AllFit (map frameOf lines)

@@ -1,7 +1,6 @@
 pub mod Cut
 pub mod Digits
 pub mod Framed
-pub mod Ran
 pub mod Completed
 pub mod Reading
 pub mod Following

@@ -10,13 +10,10 @@ use batch::first_bytes;
 use batch::put_line;
 use batch::read_lines;
 use geometry::Record;
+use index::format;
 use lines::Gathered;
-use pending::format;
 
 mod batch;
-mod pending;
-
-pub use batch::Batch;
 
 // What came of a chunk's bytes.
 pub struct Taken {
