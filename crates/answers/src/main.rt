@@ -1,0 +1,121 @@
+// The first program: reads frames from standard input, one as hexadecimal on each line, and writes an answer line for each.
+// The crate `sessions` has the work, with its proofs; here bytes are only read and written.
+ghost use Prim.Native.Nat.{_≤_};
+ghost use lib.ListN.{length};
+ghost use Rattle.hex.specs.Lines.{lineSize};
+use geometry::Record;
+use hex::LINE_SIZE;
+use libc::STDERR_FILENO;
+use libc::STDIN_FILENO;
+use libc::STDOUT_FILENO;
+use lines::Gathered;
+
+// What came of one read.
+enum Round {
+    // bytes came and were answered, and this line hasn't ended
+    More(Gathered),
+    // the input is over
+    Over,
+    // a read or a write failed, and standard error says which
+    Failed,
+}
+
+fn main() {
+    let mut keep = [0u8; LINE_SIZE];
+    let mut pool = [0u8; Record::PROGRAM_POOL];
+    let mut chunk = [0u8; CHUNK];
+    let mut out = io::large_buffer();
+    answer_all(&mut keep, &mut pool, &mut chunk, &mut out);
+}
+
+// A proved loop has to end, and nothing says that the input does: the turns are counted down from a number that no run uses up.
+fn answer_all(keep: &mut [u8], pool: &mut [u8], chunk: &mut [u8], out: &mut [u8])
+    requires { ⌜ lineSize ≤ length (now out) ⌝ }
+{
+    let mut line = sessions::start(pool);
+    let mut turns = u64::MAX;
+    while turns > 0 {
+        match answer_once(line, keep, pool, chunk, out) {
+            Round::More(next) => {
+                line = next;
+            }
+            Round::Over => {
+                answer_last(line, keep, pool, out);
+                return;
+            }
+            Round::Failed => {
+                return;
+            }
+        }
+        turns -= 1;
+    }
+}
+
+// Reads once and answers the lines that end in what came.
+fn answer_once(
+    line: Gathered,
+    keep: &mut [u8],
+    pool: &mut [u8],
+    chunk: &mut [u8],
+    out: &mut [u8],
+) -> Round
+    requires { ⌜ lineSize ≤ length (now out) ⌝ }
+{
+    let got = libc::read(STDIN_FILENO, chunk);
+    if got < 0 {
+        io::write_all(STDERR_FILENO, b"answers: standard input can't be read\n");
+        return Round::Failed;
+    }
+    if got == 0 {
+        return Round::Over;
+    }
+    let n = io::count(got, chunk);
+    answer_chunk(&chunk[..n], line, keep, pool, out)
+}
+
+// Answers the lines that end in a chunk, as many at a time as out holds.
+fn answer_chunk(
+    chunk: &[u8],
+    before: Gathered,
+    keep: &mut [u8],
+    pool: &mut [u8],
+    out: &mut [u8],
+) -> Round
+    requires { ⌜ lineSize ≤ length (now out) ⌝ }
+{
+    let mut line = before;
+    let mut at = 0;
+    while at < chunk.len() {
+        let taken = sessions::take_in(&chunk[at..], line, keep, pool, out);
+        let filled = taken.filled;
+        if !write_out(&out[..filled]) {
+            return Round::Failed;
+        }
+        at += taken.taken;
+        line = taken.line;
+    }
+    Round::More(line)
+}
+
+// Answers a last line without a line feed.
+fn answer_last(line: Gathered, keep: &mut [u8], pool: &mut [u8], out: &mut [u8])
+    requires { ⌜ lineSize ≤ length (now out) ⌝ }
+{
+    let filled = sessions::finish(line, keep, pool, out);
+    write_out(&out[..filled]);
+}
+
+// Writes answers, and says so on standard error where that fails.
+fn write_out(answers: &[u8]) -> bool {
+    let is_written = io::write_all(STDOUT_FILENO, answers);
+    if !is_written {
+        io::write_all(
+            STDERR_FILENO,
+            b"answers: standard output can't be written\n",
+        );
+    }
+    is_written
+}
+
+// bytes of one read: its frames are fewer than one call of the index takes
+const CHUNK: usize = 16384;

@@ -1,0 +1,7 @@
+pub mod Cut
+pub mod Digits
+pub mod Framed
+pub mod Completed
+pub mod Reading
+pub mod Following
+pub mod Examples
