@@ -1,14 +1,16 @@
 #!/usr/bin/env bash
 # The first session: which lines of a Fortran file carry EQUIVALENCE? Takes a file, or examples/melt.f.
 set -euo pipefail
-cd "$(dirname "$0")/.."
-file=${1:-examples/melt.f}
+top=$(cd "$(dirname "$0")/.." && pwd)
+file=$(realpath -m "${1:-$top/examples/melt.f}")
+cd "$top"
 [ -r "$file" ] || { echo "first_day: $file can't be read; give the path of a fixed-form Fortran file"; exit 1; }
-for program in marks answers; do
-  rt check "$program" >target/first_day.log 2>&1 || { cat target/first_day.log; echo "first_day: $program isn't proved; the lines above say why"; exit 1; }
-done
+mkdir -p target
+rt check marks answers >target/first_day.log 2>&1 || { cat target/first_day.log; echo "first_day: the programs aren't proved; the lines above say why"; exit 1; }
+marks=$(tests/emulated/program.sh target/bin/marks)
+answers=$(tests/emulated/program.sh target/bin/answers)
 
-lines=$(target/bin/marks <"$file" | wc -l)
+lines=$("$marks" <"$file" | wc -l)
 shares=$(((lines + 23) / 24 + 1))
 [ "$shares" -le 124 ] || { echo "first_day: $file has $lines lines; the program's pool has room for 2,952"; exit 1; }
 
@@ -17,12 +19,12 @@ frame() { printf '%02X%02X%02X00%08X\n' "$@"; }
 # The value of an answer, whose status must be 0.
 value() { [ "${1:0:2}" = 00 ] || { echo "first_day: status ${1:0:2}" >&2; exit 1; }; echo $((16#${1:8:8})); }
 
-coproc INDEX { target/bin/answers; }
+coproc INDEX { "$answers"; }
 ask() { frame "$@" >&"${INDEX[1]}"; read -r answer <&"${INDEX[0]}"; }
 
 ask 1 0 16 "$shares"
 echo "open name 0 with $shares shares, room for $((24 * shares)) lines      -> $answer"
-target/bin/marks <"$file" >target/first_day.frames
+"$marks" <"$file" >target/first_day.frames
 while read -r line; do
   echo "$line" >&"${INDEX[1]}"
   read -r answer <&"${INDEX[0]}"

@@ -2,8 +2,8 @@
 # Builds the examples for C and Rust over the library for hosts, runs each on examples/melt.f and compares what it writes.
 set -euo pipefail
 cd "$(dirname "$0")/.."
-archive=${1:-target/staticlib/libforfochry.a}
-[ -f "$archive" ] || { echo "examples: $archive isn't there; run: rt staticlib forfochry"; exit 1; }
+[ -f target/staticlib/libforfochry.a ] || { echo "examples: the library isn't there; run: rt staticlib forfochry"; exit 1; }
+archive=$(tests/emulated/library.sh)
 built=target/examples
 mkdir -p "$built"
 cc -O2 -Wall -Wextra -Iinclude -o "$built/first_day_c" examples/first_day.c "$archive"

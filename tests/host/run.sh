@@ -4,5 +4,6 @@ set -euo pipefail
 here=$(cd "$(dirname "$0")" && pwd)
 program=$(mktemp)
 trap 'rm -f "$program"' EXIT
-"$here/build.sh" "${1:-$here/../../target/staticlib/libforfochry.a}" "$program"
+archive=${1:-$("$here/../emulated/library.sh")}
+"$here/build.sh" "$archive" "$program"
 timeout 120 "$program"
