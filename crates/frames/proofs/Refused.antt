@@ -120,7 +120,7 @@ module _ (p : List ℕ) (c : Command) (n : Naming p c) where
     pub naming-closed : yes ≡ false → 5 ≡ statusIn p c
     naming-closed fails =
         let within = listed-within (c .code) (n .formed .known) in
-        let first : c .code ≡ openCode → ⊥ = n .opens in
+        let first : c .code ≡ openCode → ⊥ = n .noOpening in
         let last : c .code ≡ unpromisedCode → ⊥ = n .named in
         sym
         (by-part p c closed (n .formed) (closed-part p (c .name) (n .sound) naming-low (is-closed p (c .name) (n .sound) naming-low (sym says ∙ fails)))
@@ -141,7 +141,7 @@ module _ (p : List ℕ) (c : Command) (n : Naming p c) where
     naming-passes holds i r s d a =
         sym
         (by-part p c _ (n .formed) (opened-part p (c .name) (n .sound) naming-low (naming-asks holds .opened))
-        ∙ no-tests _ _ _ _ c (n .formed .known) (n .opens) (n .named) i r s d a)
+        ∙ no-tests _ _ _ _ c (n .formed .known) (n .noOpening) (n .named) i r s d a)
 
 -- A command to an open name, by its record.
 module _ (p : List ℕ) (c : Command) (k : Asking p c) (found : Record) (is : found ≡ recordOf p (c .name)) where

@@ -58,7 +58,7 @@ named-status-requires c κs =
     (not-false _ (tested .before .before .if2 .left))
     (tested .before .is-unused-zero .ensures)
     (not-false _ (tested .if3 .left)) in
-    record { sound = search needs; formed = formed; opens = search needs; named = search needs }
+    record { sound = search needs; formed = formed; noOpening = search needs; named = search needs }
 
 returns-6 : tie.Need-returns-6
 returns-6 c = search needs
