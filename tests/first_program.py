@@ -6,6 +6,7 @@
                                       frames sent one by one over a pipe, on random sessions and on a million frames; exit 1 at the first
                                       difference. Only the time of the last is printed: no test depends on it
 """
+import functools
 import os
 import random
 import select
@@ -16,6 +17,7 @@ import time
 
 TOP = os.path.dirname(os.path.dirname(os.path.abspath(__file__)))
 PROGRAM = os.path.join(TOP, "target", "bin", "answers")
+RUNS = os.path.join(TOP, "tests", "emulated", "program.sh")  # prints the path of a file that runs a program on this machine
 SHARES = 124
 BAD = b"FF00000000000000\n"
 PATIENCE = 30  # seconds without an answer that count as none
@@ -129,6 +131,12 @@ class Index:
         return b"%02X%02X%02X%02X%08X\n" % (status, name, found, depth, value)
 
 
+@functools.cache
+def runs():
+    """What runs the program here."""
+    return subprocess.run([RUNS, PROGRAM], stdout=subprocess.PIPE, check=True, text=True).stdout.strip()
+
+
 def is_frame(line):
     return len(line) == 16 and all(byte in b"0123456789ABCDEFabcdef" for byte in line)
 
@@ -146,7 +154,7 @@ class Talk:
     """The program with pipes on both sides."""
 
     def __init__(self):
-        self.program = subprocess.Popen([PROGRAM], stdin=subprocess.PIPE, stdout=subprocess.PIPE, bufsize=0)
+        self.program = subprocess.Popen([runs()], stdin=subprocess.PIPE, stdout=subprocess.PIPE, bufsize=0)
 
     def send(self, data):
         self.program.stdin.write(data)
@@ -281,7 +289,7 @@ def a_million():
     data = opening.encode() + b"\n" + "".join(f + "\n" for f in cycle).encode() * 125000
     by_rules = first + b"".join(index.answer(f) for f in cycle) * 125000
     began = time.time()
-    heard = subprocess.run([PROGRAM], input=data, stdout=subprocess.PIPE).stdout
+    heard = subprocess.run([runs()], input=data, stdout=subprocess.PIPE).stdout
     took = time.time() - began
     if heard != by_rules:
         fail("a million frames are answered otherwise than by the rules", data)

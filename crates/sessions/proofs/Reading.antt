@@ -104,6 +104,9 @@ reads-none chunk before keep out commands =
 pub rest-is : (chunk : List ℕ) (at : ℕ) → take (length chunk - at) (drop at chunk) ≡ drop at chunk
 rest-is chunk at = take-all (length chunk - at) (drop at chunk) (omega (arith, length-drop at chunk))
 
+pub length-rest : (chunk : List ℕ) (at : ℕ) → length (take (length chunk - at) (drop at chunk)) ≡ length chunk - at
+length-rest chunk at = ap length (rest-is chunk at) ∙ length-drop at chunk
+
 -- what bytes that were gathered behind others are to the lines
 module _ (chunk : List ℕ) (at : ℕ) (before : Gathered) (keep keep' : List ℕ) (g : Gathering) (gathers : Gathers false (drop at chunk) before keep keep' g)
     (gathered : List ℕ) where

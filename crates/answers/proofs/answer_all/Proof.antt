@@ -1,0 +1,123 @@
+-- `answers::answer_all` is safe and ends: the measure is the number of turns that are left.
+-- Assumes nothing.
+use mathlib.Core.Path.{_≡_}
+use Prim.Native.Nat.{_≤_}
+use borrow.Author.Needs.{needs}
+use lib.ListN.{length}
+use Rattle.hex.specs.Lines.{lineSize}
+use Rattle.answers.proofs.answer_all.Statement.{statement}
+use Rattle.answers.proofs.answer_all.Tie as tie
+
+abbrev Inv-loop : tie.InvT-loop
+Inv-loop keep₀ pool₀ chunk₀ out₀ line₀ turns₀ keep pool chunk out line turns =
+    (length keep ≡ length keep₀) × (length pool ≡ length pool₀) × (length chunk ≡ length chunk₀) × (length out ≡ length out₀) × (lineSize ≤ length out)
+
+abbrev μ-loop : tie.MeasureT-loop
+μ-loop keep₀ pool₀ chunk₀ out₀ line₀ turns₀ keep pool chunk out line turns = turns
+
+start-requires : tie.Need-start-requires Inv-loop μ-loop
+start-requires c κs = search needs
+
+loop-holds : tie.Need-loop-holds Inv-loop μ-loop
+loop-holds c = search needs
+
+answer-once-requires : tie.Need-answer-once-requires Inv-loop μ-loop
+answer-once-requires c κs = search needs
+
+enum-known-next : tie.Need-enum-known-next Inv-loop μ-loop
+enum-known-next c = search needs
+
+enum-told : tie.Need-enum-told Inv-loop μ-loop
+enum-told c = search needs
+
+answer-last-requires : tie.Need-answer-last-requires Inv-loop μ-loop
+answer-last-requires c κs = search needs
+
+same-length : tie.Need-same-length Inv-loop μ-loop
+same-length c = search needs
+
+same-length-2 : tie.Need-same-length-2 Inv-loop μ-loop
+same-length-2 c = search needs
+
+same-length-3 : tie.Need-same-length-3 Inv-loop μ-loop
+same-length-3 c = search needs
+
+same-length-4 : tie.Need-same-length-4 Inv-loop μ-loop
+same-length-4 c = search needs
+
+returns : tie.Need-returns Inv-loop μ-loop
+returns c = search needs
+
+enum-told-2 : tie.Need-enum-told-2 Inv-loop μ-loop
+enum-told-2 c = search needs
+
+same-length-5 : tie.Need-same-length-5 Inv-loop μ-loop
+same-length-5 c = search needs
+
+same-length-6 : tie.Need-same-length-6 Inv-loop μ-loop
+same-length-6 c = search needs
+
+same-length-7 : tie.Need-same-length-7 Inv-loop μ-loop
+same-length-7 c = search needs
+
+same-length-8 : tie.Need-same-length-8 Inv-loop μ-loop
+same-length-8 c = search needs
+
+returns-2 : tie.Need-returns-2 Inv-loop μ-loop
+returns-2 c = search needs
+
+sub-turns : tie.Need-sub-turns Inv-loop μ-loop
+sub-turns c = search needs
+
+loop-less : tie.Need-loop-less Inv-loop μ-loop
+loop-less c = search needs
+
+loop-again : tie.Need-loop-again Inv-loop μ-loop
+loop-again c = search needs
+
+same-length-9 : tie.Need-same-length-9 Inv-loop μ-loop
+same-length-9 c = search needs
+
+same-length-10 : tie.Need-same-length-10 Inv-loop μ-loop
+same-length-10 c = search needs
+
+same-length-11 : tie.Need-same-length-11 Inv-loop μ-loop
+same-length-11 c = search needs
+
+same-length-12 : tie.Need-same-length-12 Inv-loop μ-loop
+same-length-12 c = search needs
+
+returns-3 : tie.Need-returns-3 Inv-loop μ-loop
+returns-3 c = search needs
+
+pub answer-all-spec : {M : Type 1} → statement M
+answer-all-spec =
+    tie.close
+    (tie.spec
+    Inv-loop
+    μ-loop
+    start-requires
+    loop-holds
+    answer-once-requires
+    enum-known-next
+    enum-told
+    answer-last-requires
+    same-length
+    same-length-2
+    same-length-3
+    same-length-4
+    returns
+    enum-told-2
+    same-length-5
+    same-length-6
+    same-length-7
+    same-length-8
+    returns-2
+    sub-turns
+    loop-less
+    loop-again
+    same-length-9
+    same-length-10
+    same-length-11
+    same-length-12
+    returns-3)
