@@ -11,6 +11,8 @@ use native.Mathlib.Omega.{arith}
 use lib.ListN.{length, length-map}
 use Rattle.fortran.proofs.mark.Met as MarkMet
 use Rattle.fortran.specs.Mark.{markOf, firstThatFits, rules, card}
+use Rattle.index.proofs.format.Met as FormatMet
+use Rattle.index.proofs.run.Met as RunMet
 use Rattle.index.proofs.Outcomes.{length-cases, same-outcome}
 use Rattle.index.specs.Calls.{Formats, Ran}
 use Rattle.index.specs.Runs.{commandsIn}
@@ -120,4 +122,15 @@ demand-1 =
     }
 
 pub demand-1-ends : Demand1Ends
-demand-1-ends = record { markEnds = λ M. MarkMet.met; markAsks = λ κs a w. refl; markPromises = λ κs a r s w. refl }
+demand-1-ends =
+    record {
+      formatEnds = λ M. FormatMet.met;
+      formatAsks = λ κs a w. refl;
+      formatPromises = λ κs a r s w. refl;
+      runEnds = λ M. RunMet.met;
+      runAsks = λ κs a w. refl;
+      runPromises = λ κs a r s w. refl;
+      markEnds = λ M. MarkMet.met;
+      markAsks = λ κs a w. refl;
+      markPromises = λ κs a r s w. refl;
+    }

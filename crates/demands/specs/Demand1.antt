@@ -17,6 +17,12 @@ use Rattle.fortran.proofs.mark.Reads as MarkReads
 use Rattle.fortran.proofs.mark.Statement as Mark
 use Rattle.fortran.specs.Mark.{markOf}
 use Rattle.geometry.specs.Limits.{frameSize}
+use Rattle.index.proofs.format as format
+use Rattle.index.proofs.format.Reads as FormatReads
+use Rattle.index.proofs.format.Statement as Format
+use Rattle.index.proofs.run as run
+use Rattle.index.proofs.run.Reads as RunReads
+use Rattle.index.proofs.run.Statement as Run
 use Rattle.index.specs.Alike.{SameOutcome}
 use Rattle.index.specs.Calls.{Formats, StatusOfCall, Ran}
 use Rattle.index.specs.Runs.{commandsIn}
@@ -82,7 +88,16 @@ abbrev pub Says : (w : World) → Type 0 → Pr w
 Says w This = connectives (w .𝓤) .⌜_⌝ This
 
 -- each call's code, on whatever it is lent, ends safely and keeps its contract, which asks for nothing and promises the definition above
+-- (a is what is lent, in turn, s the same at exit, r the result)
 pub record Demand1Ends : Type 2 where
+  pub formatEnds : (M : Type 1) → Format.statement M
+  pub formatAsks : (κs : Lfts 1) (a : ArgsD format.signature κs) (w : World) → FormatReads.requires κs a tt w ≡ Nothing w
+  pub formatPromises : (κs : Lfts 1) (a : ArgsD format.signature κs) (r : ResD format.signature κs) (s : AtExit format.ended κs) (w : World)
+      → FormatReads.ensures κs a tt r s w ≡ Says w (Formats (now (a .0)) r (now (s .0)))
+  pub runEnds : (M : Type 1) → Run.statement M
+  pub runAsks : (κs : Lfts 3) (a : ArgsD run.signature κs) (w : World) → RunReads.requires κs a tt w ≡ Nothing w
+  pub runPromises : (κs : Lfts 3) (a : ArgsD run.signature κs) (r : ResD run.signature κs) (s : AtExit run.ended κs) (w : World)
+      → RunReads.ensures κs a tt r s w ≡ Says w (Ran (now (a .0)) (now (a .1 .0)) (now (a .1 .1 .0)) r (now (s .0)) (now (s .1 .1 .0)))
   pub markEnds : (M : Type 1) → Mark.statement M
   pub markAsks : (κs : Lfts 1) (a : ArgsD mark.signature κs) (w : World) → MarkReads.requires κs a tt w ≡ Nothing w
   pub markPromises : (κs : Lfts 1) (a : ArgsD mark.signature κs) (r : ResD mark.signature κs) (s : AtExit mark.ended κs) (w : World)
