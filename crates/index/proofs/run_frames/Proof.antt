@@ -1,7 +1,8 @@
 -- `index::run_frames` meets its contract: `Progress` holds at the loop's start, after each frame and at its end.
 -- The measure is the number of frames left. Assumes nothing.
-use Prim.Native.Nat.{_-_, _/_}
+use Prim.Native.Nat.{_-_, _/_, _<_}
 use borrow.Author.Needs.{needs}
+use native.Mathlib.Omega.{arith}
 use lib.ListN.{length}
 use Rattle.geometry.specs.Limits.{frameSize}
 use Rattle.index.proofs.Progress.{Progress, none-run, pool-stays, map-stays, one-run, all-run}
@@ -36,7 +37,10 @@ loop-less : tie.Need-loop-less Inv-loop μ-loop
 loop-less c = search needs
 
 loop-again : tie.Need-loop-again Inv-loop μ-loop
-loop-again c = search one-run
+loop-again c =
+    let at-loop = c .before .before .before .before .before .before .before .before .before .before .before .before .before in
+    let more : at-loop .loop .k < length (at-loop .before .before .before .before .before .args .commands .now) / frameSize = omega arith in
+    search one-run
 
 same-length : tie.Need-same-length Inv-loop μ-loop
 same-length c = search (needs, pool-stays)
