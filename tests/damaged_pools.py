@@ -1,20 +1,30 @@
 #!/usr/bin/env python3
-"""Writes crates/sound_cases/stdin and stdout: pools that are sound and pools with one fault each, both sides of each limit.
+"""Builds the pools that `sound_cases` checks, sound ones and ones with one fault each, both sides of each limit, and its verdicts.
+
+    tests/damaged_pools.py --write    write crates/sound_cases/stdin and stdout
+    tests/damaged_pools.py            exit 1 unless the stored files are what would be written
 
 Nothing here is shared with the code under test: a pool is built from docs/LAYOUT.md by its own few functions.
-A case in stdin is a head of 64 bytes, the pool's length (3 bytes, low byte first) and a label padded with blanks,
-and then the pool's bytes. A line of stdout is the label and the verdict.
+A case in stdin is a head of 64 bytes and then the pool's bytes up to the last that isn't 0. The head is the pool's length and how many
+of its bytes follow (3 bytes each, low byte first), and a label padded with blanks. A line of stdout is the label and the verdict.
 """
 import os
+import sys
 
-HERE = os.path.join(os.path.dirname(os.path.abspath(__file__)), "..", "crates", "sound_cases")
-HEAD, SHARES = 64, 10
+TOP = os.path.dirname(os.path.dirname(os.path.abspath(__file__)))
+CRATE = os.path.join(TOP, "crates", "sound_cases")
+HEAD, NUMBER, SHARES = 64, 3, 10
 
 
 class Pool:
     def __init__(self, shares=SHARES):
         self.bytes = bytearray(512 + 128 * shares)
         self.bytes[0] = 1
+
+    def long(self, n):
+        """The same pool cut or filled up with zeros to n bytes."""
+        self.bytes = self.bytes[:n].ljust(n, b"\0")
+        return self
 
     def put(self, at, value):
         self.bytes[at] = value
@@ -106,10 +116,15 @@ def cases():
     closed = 128 + 24
     yield "formatted, one share", Pool(1), yes
     yield "two names", two_names(), yes
-    for n, verdict in ((512, no), (639, no), (640, yes), (641, no), (768, yes)):
-        p = Pool(2)
-        p.bytes = p.bytes[:n]
-        yield f"{n} bytes", p, verdict
+    for n, verdict in ((0, no), (512, no), (639, no), (640, yes), (641, no), (768, yes)):
+        yield f"{n} bytes", Pool().long(n), verdict
+    for n, verdict in ((65535, no), (65536, yes), (65537, no), (65664, no)):
+        yield f"{n} bytes", Pool().long(n), verdict
+        yield f"{n} bytes with marks", two_names().long(n), verdict
+    for root, verdict in ((507, yes), (508, no)):
+        yield f"an empty root at block {root} of 508", Pool(508).name(0, 4, 0, 1, root, 0), verdict
+    for q, verdict in ((508, yes), (509, no)):
+        yield f"promised {q} of 508 shares", Pool(508).name(0, 4, 0, q, 0, 0), verdict
 
     yield "a branch that is its own child", two_names().put(128 + 2, 2).word(entry(0, -2), 2), no
     p = two_names((63, 63))
@@ -168,12 +183,31 @@ def cases():
     yield "height 255", two_names().put(128 + 2, 255), no
 
 
-def main():
-    with open(os.path.join(HERE, "stdin"), "wb") as table, open(os.path.join(HERE, "stdout"), "w") as lines:
-        for label, pool, verdict in cases():
-            head = len(pool.bytes).to_bytes(3, "little") + label.encode()
-            table.write(head.ljust(HEAD, b" ") + pool.bytes)
-            lines.write(f"{label.ljust(HEAD - 3)}{verdict}\n")
+def built():
+    """Standard input and the output that it should have."""
+    stdin, stdout = b"", ""
+    for label, pool, verdict in cases():
+        given = bytes(pool.bytes).rstrip(b"\0")
+        numbers = b"".join(len(b).to_bytes(NUMBER, "little") for b in (pool.bytes, given))
+        stdin += (numbers + label.encode()).ljust(HEAD, b" ") + given
+        stdout += f"{label.ljust(HEAD - len(numbers))}{verdict}\n"
+    return {"stdin": stdin, "stdout": stdout.encode()}
 
 
-main()
+def main(words):
+    if words not in ([], ["--write"]):
+        sys.exit(__doc__)
+    for file, content in built().items():
+        path = os.path.join(CRATE, file)
+        if words:
+            with open(path, "wb") as f:
+                f.write(content)
+            continue
+        with open(path, "rb") as f:
+            if f.read() != content:
+                sys.exit(f"tests/damaged_pools.py: crates/sound_cases/{file} isn't what --write would write")
+    if not words:
+        print("tests/damaged_pools.py: the stored files are as they should be")
+
+
+main(sys.argv[1:])

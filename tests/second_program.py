@@ -5,6 +5,7 @@
     tests/second_program.py            run target/bin/marks on the table's cases, at the limit of 12,192 lines, on long lines and on
                                        random files, each handed over in pieces of random sizes; exit 1 at the first difference
 """
+import functools
 import os
 import random
 import subprocess
@@ -12,6 +13,7 @@ import sys
 
 TOP = os.path.dirname(os.path.dirname(os.path.abspath(__file__)))
 PROGRAM = os.path.join(TOP, "target", "bin", "marks")
+HERE = os.path.join(TOP, "tests", "emulated", "program.sh")
 LIMIT = 12192
 
 # A line with its line end, and the mark that document 01 gives it. One table for both sides of each rule.
@@ -120,9 +122,15 @@ def frames(marks):
     return b"".join(b"0300%02X00%08X\n" % (m, k + 1) for k, m in enumerate(marks[:LIMIT]))
 
 
+@functools.cache
+def runs_here():
+    """The program, or where this machine can't run it a script that runs it under the kit's emulator."""
+    return subprocess.check_output([HERE, PROGRAM], text=True).strip()
+
+
 def run(data, chance):
     """What the program writes for this input, handed over in pieces of random sizes."""
-    program = subprocess.Popen([PROGRAM], stdin=subprocess.PIPE, stdout=subprocess.PIPE)
+    program = subprocess.Popen([runs_here()], stdin=subprocess.PIPE, stdout=subprocess.PIPE)
     if os.fork() == 0:
         program.stdout.close()
         at = 0

@@ -1,9 +1,10 @@
-// The entries of a branch, one at a time, which child takes a place, and the summary of a block, which is what its parent's entry says
-// of it.
+// The entries of a branch, one at a time, which child takes a place, how many entries a block may have, and its summary, which is what its
+// parent's entry says of it.
 use geometry::Record;
 
 mod choice;
 mod reads;
+mod sizes;
 mod stores;
 mod sums;
 
@@ -13,6 +14,8 @@ pub use reads::count_below;
 pub use reads::entry_count;
 pub use reads::link;
 pub use reads::marks_below;
+pub use sizes::least_entries;
+pub use sizes::most_entries;
 pub use stores::add_mark;
 pub use stores::set_entry;
 pub use stores::take_mark;

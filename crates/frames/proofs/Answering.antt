@@ -1,7 +1,7 @@
 -- The answers to queries: each query can be asked where nothing refuses it, and what it gives is the machine's answer.
 -- Assumes nothing.
 use mathlib.Core.List.{List}
-use mathlib.Core.Path.{_≡_, refl, sym, ap, _∙_}
+use mathlib.Core.Path.{_≡_, sym, ap, _∙_}
 use Prim.Native.Nat.{ℕ, _^_, _≤_, _<_}
 use native.Mathlib.Omega.{arith}
 use lib.ListN.{length}
@@ -14,7 +14,7 @@ use Rattle.pool.specs.Names.{recordOf, treeOf}
 use Rattle.pool.specs.Shares.{unpromisedShares}
 use Rattle.pool.specs.Sound.{OpenName}
 use Rattle.protocol.proofs.Accepted.{PlaceAccepted, RankAccepted, SelectAccepted, access-accepted, rank-accepted, select-accepted, length-accepted, code-is-listed}
-use Rattle.protocol.specs.Commands.{Effect, accessCode, rankCode, selectCode, lengthCode, unpromisedCode, accesses, ranks, selects, tells, tellsUnpromised}
+use Rattle.protocol.specs.Commands.{accessCode, rankCode, selectCode, lengthCode, unpromisedCode, accesses, ranks, selects, tells}
 use Rattle.protocol.specs.Respond.{accepted}
 use Rattle.protocol.specs.State.{Part, alphabetOf, marksOf, partOf, unpromised}
 use Rattle.protocol.specs.declared.Answer.{Answer}

@@ -1,11 +1,11 @@
 -- The nine codes: what holds of each of them holds of every code in the table. Which codes are in it, and which fields their commands use.
 -- Assumes nothing.
-use mathlib.Core.Bool.{Bool, true, false, _||_, true≢false, false≢true}
+use mathlib.Core.Bool.{Bool, true, false, _||_, false≢true}
 use mathlib.Core.Logic.{_≢_}
-use mathlib.Core.Path.{_≡_, refl, sym, subst, _∙_}
+use mathlib.Core.Path.{_≡_, refl, sym, subst}
 use Prim.Native.Nat.{ℕ, _≤_, _<_}
 use native.Mathlib.Omega.{arith}
-use borrow.Author.Tests.{eqb-true, eqb-false, leb-true, le-leb, lt-leb, eq-eqb, ne-eqb}
+use borrow.Author.Tests.{eqb-true, eqb-false, leb-true, le-leb}
 use lib.Dec.{eqb, leb}
 use Rattle.machine.specs.Machine.{trees}
 use Rattle.protocol.proofs.Bools.{neither}

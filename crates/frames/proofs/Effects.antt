@@ -1,17 +1,17 @@
 -- What a command that nothing refuses comes to: its row's effect, code by code, and what its acceptance says of the pool.
 -- Assumes nothing.
-use mathlib.Core.Bool.{true, false}
+use mathlib.Core.Bool.{true}
 use mathlib.Core.List.{List}
 use mathlib.Core.Logic.{_≢_}
-use mathlib.Core.Path.{_≡_, refl, sym, ap, _∙_}
-use Prim.Native.Nat.{ℕ, _+_, _-_, _*_, _≤_, _<_}
+use mathlib.Core.Path.{_≡_, sym, ap, _∙_}
+use Prim.Native.Nat.{ℕ, _-_, _≤_, _<_}
 use native.Mathlib.Omega.{arith}
 use lib.ListN.{length}
-use Rattle.geometry.specs.Limits.{names, mostAlphabet, mostMarks}
+use Rattle.geometry.specs.Limits.{names, mostMarks}
 use Rattle.machine.specs.Machine.{trees}
 use Rattle.pool.proofs.Meanings.{part-meaning}
 use Rattle.pool.proofs.Sums.{sumBelow-one}
-use Rattle.pool.specs.Meaning.{meaningOf, meaning}
+use Rattle.pool.specs.Meaning.{meaning}
 use Rattle.pool.specs.Names.{recordOf, treeOf}
 use Rattle.pool.specs.Shares.{promisedShares}
 use Rattle.pool.specs.Sound.{ClosedName, OpenName, Sound}
@@ -41,11 +41,11 @@ use Rattle.protocol.specs.Commands.{
   tellsUnpromised,
 }
 use Rattle.protocol.specs.Respond.{accepted, reply}
-use Rattle.protocol.specs.State.{Part, closed, isOpen, alphabetOf, partOf, unpromised}
+use Rattle.protocol.specs.State.{Part, closed, isOpen, partOf, unpromised}
 use Rattle.protocol.specs.State as State
 use Rattle.protocol.specs.declared.Command.{Command}
 use Rattle.shape.specs.Trees.{Tree, marksT}
-use Rattle.frames.specs.Statuses.{statusIn, Accepted, answerOf}
+use Rattle.frames.specs.Statuses.{statusIn, answerOf}
 use Rattle.frames.proofs.Parts.{is-open, is-closed, opened-part}
 
 -- the effect of a command on a pool

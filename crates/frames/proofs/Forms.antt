@@ -1,16 +1,15 @@
 -- The statuses 1 to 3: which of them a command gets, and what is left to test where it gets none.
 -- Assumes nothing.
-use mathlib.Core.Bool.{Bool, true, false, _&&_, _||_, true≢false, false≢true}
+use mathlib.Core.Bool.{Bool, true, false, _||_, true≢false}
 use mathlib.Core.List.{List}
 use mathlib.Core.Logic.{_≢_}
-use mathlib.Core.Path.{_≡_, refl, sym, ap, subst, _∙_}
-use Prim.Native.Nat.{ℕ, _≤_, _<_}
+use mathlib.Core.Path.{_≡_, refl, sym, _∙_}
+use Prim.Native.Nat.{ℕ, _<_}
 use borrow.Author.Tests.{eq-eqb, ne-eqb, ltb-true}
 use lib.Dec.{eqb, ltb}
 use lib.ListN.{drop}
 use Rattle.geometry.specs.Limits.{names}
 use Rattle.machine.specs.Machine.{trees}
-use Rattle.protocol.proofs.Rows.{withCode}
 use Rattle.protocol.specs.Commands.{unpromisedCode, rows, rowOf}
 use Rattle.protocol.specs.Refusals.{refusals, firstOf, statusOf, listed, isNameAllowed, isUnusedZero, noName}
 use Rattle.protocol.specs.State.{Part}

@@ -3,7 +3,6 @@ pub mod Parts
 pub mod Forms
 pub mod Tests
 pub mod Refused
-pub mod Counts
 pub mod Effects
 pub mod Answering
 pub mod Stepping

@@ -6,7 +6,6 @@ use mathlib.Core.Logic.{⊎-elim}
 use mathlib.Core.Path.{_≡_, refl, sym, ap, _∙_}
 use Prim.Native.Nat.{ℕ, _<_}
 use lib.Dec.{eqb}
-use lib.ListN.{length}
 use Rattle.geometry.specs.Layout.{kindClosed}
 use Rattle.geometry.specs.Limits.{names}
 use Rattle.geometry.specs.declared.Record.{Record}
@@ -15,7 +14,7 @@ use Rattle.pool.specs.Meaning.{meaningOf, meaning}
 use Rattle.pool.specs.Names.{recordOf, treeOf}
 use Rattle.pool.specs.Sound.{ClosedName, OpenName, Sound}
 use Rattle.protocol.specs.State.{Part, closed, opened, isOpen, partOf}
-use Rattle.shape.specs.Trees.{Tree, marksT}
+use Rattle.shape.specs.Trees.{Tree}
 
 module _ (p : List ℕ) (name : ℕ) where
   -- the kind tells whether a name is open

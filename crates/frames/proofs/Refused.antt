@@ -2,8 +2,8 @@
 -- Assumes nothing.
 use mathlib.Core.Bool.{Bool, true, false, cond, not, _&&_, _||_}
 use mathlib.Core.List.{List}
-use mathlib.Core.Logic.{_⊎_, _≢_, ⊎-elim}
-use mathlib.Core.Path.{_≡_, refl, sym, ap, subst, _∙_}
+use mathlib.Core.Logic.{_⊎_, ⊎-elim}
+use mathlib.Core.Path.{_≡_, sym, ap, _∙_}
 use Prim.Native.Nat.{ℕ, _+_, _*_, _≤_, _<_}
 use native.Mathlib.Omega.{arith}
 use borrow.Author.Tests.{eq-eqb, ne-eqb, le-leb, lt-leb, lt-ltb, le-ltb}
@@ -15,8 +15,7 @@ use Rattle.pool.proofs.Meanings.{unpromised-meaning}
 use Rattle.pool.specs.Meaning.{meaningOf, meaning}
 use Rattle.pool.specs.Names.{recordOf, treeOf}
 use Rattle.pool.specs.Shares.{unpromisedShares}
-use Rattle.pool.specs.Sound.{OpenName, Sound}
-use Rattle.protocol.specs.Commands.{openCode, closeCode, insertCode, deleteCode, accessCode, rankCode, selectCode, lengthCode, unpromisedCode}
+use Rattle.protocol.specs.Commands.{openCode, insertCode, deleteCode, accessCode, rankCode, selectCode, unpromisedCode}
 use Rattle.protocol.specs.State.{Part, closed, opened, isOpen, partOf, unpromised}
 use Rattle.protocol.specs.declared.Command.{Command}
 use Rattle.sequence.specs.Definition1.{count}
@@ -43,6 +42,13 @@ by-part : (p : List ℕ) (c : Command) (part : Part Tree) → WellFormed c → p
     → statusIn p c ≡ laterStatus (unpromised (meaning p)) part c
 by-part p c part formed is =
     later-tests _ _ c formed ∙ ap (λ (x : Part Tree). laterStatus (unpromised (meaning p)) x c) is
+
+-- a place of a range
+pub place-before : (number first last : ℕ) → number < first → false ≡ (leb first number && leb number last)
+place-before number first last low = rw (lt-leb first number low)
+
+pub place-up-to : (number first last : ℕ) → first ≤ number → leb number last ≡ (leb first number && leb number last)
+place-up-to number first last high = rw (le-leb first number high)
 
 module _ (p : List ℕ) (c : Command) where
   pub unpromised-passes : WellFormed c → c .code ≡ unpromisedCode → 0 ≡ statusIn p c
@@ -114,7 +120,7 @@ module _ (p : List ℕ) (c : Command) (n : Naming p c) where
     pub naming-closed : yes ≡ false → 5 ≡ statusIn p c
     naming-closed fails =
         let within = listed-within (c .code) (n .formed .known) in
-        let first : c .code ≡ openCode → ⊥ = n .opens in
+        let first : c .code ≡ openCode → ⊥ = n .noOpening in
         let last : c .code ≡ unpromisedCode → ⊥ = n .named in
         sym
         (by-part p c closed (n .formed) (closed-part p (c .name) (n .sound) naming-low (is-closed p (c .name) (n .sound) naming-low (sym says ∙ fails)))
@@ -135,7 +141,7 @@ module _ (p : List ℕ) (c : Command) (n : Naming p c) where
     naming-passes holds i r s d a =
         sym
         (by-part p c _ (n .formed) (opened-part p (c .name) (n .sound) naming-low (naming-asks holds .opened))
-        ∙ no-tests _ _ _ _ c (n .formed .known) (n .opens) (n .named) i r s d a)
+        ∙ no-tests _ _ _ _ c (n .formed .known) (n .noOpening) (n .named) i r s d a)
 
 -- A command to an open name, by its record.
 module _ (p : List ℕ) (c : Command) (k : Asking p c) (found : Record) (is : found ≡ recordOf p (c .name)) where
@@ -159,57 +165,30 @@ module _ (p : List ℕ) (c : Command) (k : Asking p c) (found : Record) (is : fo
     insert-symbol outside = sym (insert-is ∙ rw (le-leb (found .alphabet) (c .symbol) outside))
 
     module _ (inside : c .symbol < found .alphabet) where
-      pub insert-zero : c .number ≡ 0 → 9 ≡ statusIn p c
-      insert-zero zero =
-          sym (insert-is ∙ rw (lt-leb (found .alphabet) (c .symbol) inside, lt-leb 1 (c .number) (omega (arith, zero))))
+      module _ (yes : Bool) (says : yes ≡ (leb 1 (c .number) && leb (c .number) (found .length + 1))) where
+        insert-placed : statusIn p c ≡ cond (not yes) 9 (cond (eqb (found .length) (marksPerShare * found .q)) 11 0)
+        insert-placed = insert-is ∙ rw (lt-leb (found .alphabet) (c .symbol) inside, says)
 
-      pub insert-past : (c .number ≡ 0 → ⊥) → found .length + 1 < c .number → 9 ≡ statusIn p c
-      insert-past some past =
-          sym
-          (insert-is
-          ∙ rw (
-            lt-leb (found .alphabet) (c .symbol) inside,
-            le-leb 1 (c .number) (omega arith),
-            lt-leb (c .number) (found .length + 1) past,
-          ))
+        pub insert-outside : yes ≡ false → 9 ≡ statusIn p c
+        insert-outside fails = sym (insert-placed ∙ rw fails)
 
-      pub insert-full : (c .number ≡ 0 → ⊥) → c .number ≤ found .length + 1 → found .length ≡ marksPerShare * found .q → 11 ≡ statusIn p c
-      insert-full some within full =
-          sym
-          (insert-is
-          ∙ rw (
-            lt-leb (found .alphabet) (c .symbol) inside,
-            le-leb 1 (c .number) (omega arith),
-            le-leb (c .number) (found .length + 1) within,
-            eq-eqb (found .length) (marksPerShare * found .q) full,
-          ))
+        pub insert-full : yes ≡ true → found .length ≡ marksPerShare * found .q → 11 ≡ statusIn p c
+        insert-full holds full = sym (insert-placed ∙ rw (holds, eq-eqb (found .length) (marksPerShare * found .q) full))
 
-      pub insert-passes : (c .number ≡ 0 → ⊥) → c .number ≤ found .length + 1 → (found .length ≡ marksPerShare * found .q → ⊥) → 0 ≡ statusIn p c
-      insert-passes some within room =
-          sym
-          (insert-is
-          ∙ rw (
-            lt-leb (found .alphabet) (c .symbol) inside,
-            le-leb 1 (c .number) (omega arith),
-            le-leb (c .number) (found .length + 1) within,
-            ne-eqb (found .length) (marksPerShare * found .q) room,
-          ))
+        pub insert-passes : yes ≡ true → (found .length ≡ marksPerShare * found .q → ⊥) → 0 ≡ statusIn p c
+        insert-passes holds room = sym (insert-placed ∙ rw (holds, ne-eqb (found .length) (marksPerShare * found .q) room))
 
   -- a delete and an access
   module _ (code : (c .code ≡ deleteCode) ⊎ (c .code ≡ accessCode)) where
     place-is : statusIn p c ≡ cond (not (leb 1 (c .number) && leb (c .number) (found .length))) 9 0
     place-is = asked ∙ ⊎-elim (λ d. delete-tests _ _ _ _ c d) (λ a. access-tests _ _ _ _ c a) code ∙ rw long
 
-    pub place-zero : c .number ≡ 0 → 9 ≡ statusIn p c
-    place-zero zero = sym (place-is ∙ rw (lt-leb 1 (c .number) (omega (arith, zero))))
+    module _ (yes : Bool) (says : yes ≡ (leb 1 (c .number) && leb (c .number) (found .length))) where
+      pub place-outside : yes ≡ false → 9 ≡ statusIn p c
+      place-outside fails = sym (place-is ∙ rw (sym says, fails))
 
-    pub place-past : (c .number ≡ 0 → ⊥) → found .length < c .number → 9 ≡ statusIn p c
-    place-past some past =
-        sym (place-is ∙ rw (le-leb 1 (c .number) (omega arith), lt-leb (c .number) (found .length) past))
-
-    pub place-passes : (c .number ≡ 0 → ⊥) → c .number ≤ found .length → 0 ≡ statusIn p c
-    place-passes some within =
-        sym (place-is ∙ rw (le-leb 1 (c .number) (omega arith), le-leb (c .number) (found .length) within))
+      pub place-passes : yes ≡ true → 0 ≡ statusIn p c
+      place-passes holds = sym (place-is ∙ rw (sym says, holds))
 
   -- a rank
   module _ (code : c .code ≡ rankCode) where
@@ -219,25 +198,12 @@ module _ (p : List ℕ) (c : Command) (k : Asking p c) (found : Record) (is : fo
     pub rank-symbol : found .alphabet ≤ c .symbol → 8 ≡ statusIn p c
     rank-symbol outside = sym (rank-is ∙ rw (le-leb (found .alphabet) (c .symbol) outside))
 
-    pub rank-past : c .symbol < found .alphabet → found .length < c .number → 9 ≡ statusIn p c
-    rank-past inside past =
-        sym
-        (rank-is
-        ∙ rw (
-          lt-leb (found .alphabet) (c .symbol) inside,
-          le-leb 0 (c .number) (omega arith),
-          lt-leb (c .number) (found .length) past,
-        ))
+    module _ (inside : c .symbol < found .alphabet) (yes : Bool) (says : yes ≡ (leb 0 (c .number) && leb (c .number) (found .length))) where
+      pub rank-outside : yes ≡ false → 9 ≡ statusIn p c
+      rank-outside fails = sym (rank-is ∙ rw (lt-leb (found .alphabet) (c .symbol) inside, sym says, fails))
 
-    pub rank-passes : c .symbol < found .alphabet → c .number ≤ found .length → 0 ≡ statusIn p c
-    rank-passes inside within =
-        sym
-        (rank-is
-        ∙ rw (
-          lt-leb (found .alphabet) (c .symbol) inside,
-          le-leb 0 (c .number) (omega arith),
-          le-leb (c .number) (found .length) within,
-        ))
+      pub rank-passes : yes ≡ true → 0 ≡ statusIn p c
+      rank-passes holds = sym (rank-is ∙ rw (lt-leb (found .alphabet) (c .symbol) inside, sym says, holds))
 
   -- a select
   module _ (code : c .code ≡ selectCode) where

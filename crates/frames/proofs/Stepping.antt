@@ -1,27 +1,24 @@
 -- The steps of a frame. A refusal and a query leave the pool as it is, and so what it means. A change of one name changes that name's part
 -- of the meaning, which the machine's effect is, and no other name's record or blocks.
 -- Assumes nothing.
-use mathlib.Core.Bool.{Bool, true, false, true≢false}
+use mathlib.Core.Bool.{true, false, true≢false}
 use mathlib.Core.List.{List, [], _∷_}
 use mathlib.Core.Logic.{_⊎_, _≢_, ⊎-elim}
 use mathlib.Core.Path.{_≡_, refl, sym, ap, ap₂, subst, _∙_}
 use Prim.Native.Nat.{ℕ, _+_, _-_, _*_, _≤_, _<_}
 use native.Mathlib.Omega.{arith}
 use lib.ListN.{length, set}
-use Rattle.geometry.specs.Limits.{names, directorySize, mostAlphabet, marksPerShare}
+use Rattle.geometry.specs.Limits.{names, directorySize, marksPerShare}
 use Rattle.geometry.specs.declared.Record.{Record}
 use Rattle.machine.specs.Machine.{trees}
-use Rattle.names.specs.Updates.{Exact, NameIn, OpenReady, CloseReady, Updated}
+use Rattle.names.specs.Updates.{NameIn, OpenReady, CloseReady, Updated}
 use Rattle.pool.proofs.Meanings.{part-meaning, unpromised-meaning, meaning-after}
 use Rattle.pool.proofs.NamesKept.{blocks-of-untouched}
 use Rattle.pool.specs.Bytes.{shares}
-use Rattle.pool.specs.Changes.{SameBlock}
-use Rattle.pool.specs.Meaning.{meaningOf, meaning}
-use Rattle.pool.specs.Names.{recordOf, treeOf, blocksOf}
-use Rattle.pool.specs.Shares.{unpromisedShares}
-use Rattle.pool.specs.Sound.{Sound}
-use Rattle.pool.specs.Untouched.{SameBlocks, Untouched}
-use Rattle.protocol.proofs.Accepted.{OpenAccepted, InsertAccepted, PlaceAccepted, open-accepted, close-accepted, insert-accepted, delete-accepted, code-is-listed}
+use Rattle.pool.specs.Meaning.{meaning}
+use Rattle.pool.specs.Names.{recordOf, blocksOf}
+use Rattle.pool.specs.Untouched.{SameBlocks}
+use Rattle.protocol.proofs.Accepted.{InsertAccepted, PlaceAccepted, open-accepted, close-accepted, insert-accepted, delete-accepted, code-is-listed}
 use Rattle.protocol.proofs.Replies.{respond-status, refused-keeps-state, refused-answers-zeros, query-keeps-state}
 use Rattle.protocol.specs.Commands.{
   Effect,
@@ -32,21 +29,17 @@ use Rattle.protocol.specs.Commands.{
   accessCode,
   unpromisedCode,
   edited,
-  opens,
-  closes,
-  inserts,
-  deletes,
 }
-use Rattle.protocol.specs.Respond.{accepted, refused, reply, respond}
-use Rattle.protocol.specs.State.{Part, State, closed, opened, alphabetOf, sharesOf, marksOf, partOf, unpromised}
+use Rattle.protocol.specs.Respond.{accepted, refused, respond}
+use Rattle.protocol.specs.State.{Part, closed, opened, alphabetOf, sharesOf, marksOf, partOf, unpromised}
 use Rattle.protocol.specs.declared.Answer.{Answer}
 use Rattle.protocol.specs.declared.Command.{Command}
 use Rattle.sequence.specs.Definition1.{access}
 use Rattle.shape.specs.Sizes.{oneToAByte}
-use Rattle.shape.specs.Trees.{Tree, emptyT, marksT, insertT, deleteT}
+use Rattle.shape.specs.Trees.{Tree, emptyT, insertT, deleteT}
 use Rattle.updates.specs.Edits.{InsertAt, DeleteAt, InsertedAt, DeletedAt}
 use Rattle.frames.specs.Statuses.{statusIn, answerOf, valueTo}
-use Rattle.frames.specs.Steps.{isChange, Kept, Step, Stepped, Ready}
+use Rattle.frames.specs.Steps.{isChange, Kept, Stepped, Ready}
 use Rattle.frames.proofs.Codes.{listed-within}
 use Rattle.frames.proofs.Effects.{
   ToOpen,

@@ -1,21 +1,15 @@
 -- The statuses from 4 on, code by code: what is tested of a well-formed command, in the order of the table.
 -- Assumes nothing.
-use mathlib.Core.Bool.{Bool, true, false, cond, not, _&&_, _||_}
-use mathlib.Core.List.{List}
-use mathlib.Core.Logic.{_⊎_, _≢_, ⊎-elim}
-use mathlib.Core.Path.{_≡_, refl, sym, ap, subst, _∙_}
-use Prim.Native.Nat.{ℕ, _+_, _*_, _≤_, _<_}
+use mathlib.Core.Bool.{true, cond, not, _&&_, _||_}
+use mathlib.Core.Logic.{_≢_}
+use mathlib.Core.Path.{_≡_, refl}
+use Prim.Native.Nat.{ℕ, _+_, _*_, _≤_}
 use native.Mathlib.Omega.{arith}
-use borrow.Author.Tests.{eq-eqb, ne-eqb, le-leb, lt-leb, lt-ltb, le-ltb}
+use borrow.Author.Tests.{ne-eqb, le-leb}
 use lib.Dec.{eqb, leb, ltb}
 use lib.ListN.{length}
 use Rattle.geometry.specs.Limits.{leastAlphabet, mostAlphabet, marksPerShare}
-use Rattle.geometry.specs.declared.Record.{Record}
 use Rattle.machine.specs.Machine.{trees}
-use Rattle.pool.specs.Names.{recordOf, treeOf}
-use Rattle.pool.specs.Sound.{ClosedName, OpenName, Sound}
-use Rattle.pool.specs.Shares.{unpromisedShares}
-use Rattle.pool.proofs.Meanings.{unpromised-meaning}
 use Rattle.protocol.proofs.Rows.{withCode}
 use Rattle.protocol.specs.Commands.{
   openCode,
@@ -29,15 +23,13 @@ use Rattle.protocol.specs.Commands.{
   unpromisedCode,
   rows,
 }
-use Rattle.protocol.specs.Refusals.{refusals, statusOf, listed}
+use Rattle.protocol.specs.Refusals.{refusals, listed}
 use Rattle.protocol.specs.State.{Part, closed, opened}
 use Rattle.protocol.specs.declared.Command.{Command}
 use Rattle.sequence.specs.Definition1.{count}
 use Rattle.shape.specs.Trees.{Tree, marksT}
-use Rattle.frames.specs.Statuses.{statusIn, WellFormed, Opening, Naming, Asking}
-use Rattle.frames.proofs.Codes.{EachCode, by-code, listed-within}
-use Rattle.frames.proofs.Forms.{laterStatus, later-tests}
-use Rattle.frames.proofs.Parts.{closed-part, opened-part}
+use Rattle.frames.proofs.Codes.{by-code}
+use Rattle.frames.proofs.Forms.{laterStatus}
 
 -- of the unpromised shares nothing is tested
 pub later-unpromised : (free : ℕ) (part : Part Tree) (c : Command) → c .code ≡ unpromisedCode → laterStatus free part c ≡ 0

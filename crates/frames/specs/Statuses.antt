@@ -1,4 +1,4 @@
--- The status of a command on a pool, and what is known of the command where the later tests are made.
+-- The machine's status of a command and its answer, by what a pool means, and what is known of the command where later tests are made.
 -- Assumes nothing.
 use mathlib.Core.Bool.{true}
 use mathlib.Core.List.{List}
@@ -26,23 +26,23 @@ pub record WellFormed (c : Command) : Type 0 where
   pub name : isNameAllowed c ≡ true
   pub unused : isUnusedZero trees c ≡ true
 
--- nor do they to an opening
+-- an opening that these statuses don't refuse
 pub record Opening (p : List ℕ) (c : Command) : Type 0 where
   pub sound : Sound p
   pub formed : WellFormed c
   pub code : c .code ≡ openCode
 
--- nor to a command to a name that must be open
+-- a command to a name that must be open, which they don't refuse
 pub record Naming (p : List ℕ) (c : Command) : Type 0 where
   pub sound : Sound p
   pub formed : WellFormed c
-  pub opens : c .code ≢ openCode
+  pub noOpening : c .code ≢ openCode
   pub named : c .code ≢ unpromisedCode
 
--- nor to a command to a name that is open
+-- a command to an open name, which they don't refuse
 pub record Asking (p : List ℕ) (c : Command) : Type 0 where
-  pub formed : WellFormed c
   pub sound : Sound p
+  pub formed : WellFormed c
   pub low : c .name < names
   pub opened : OpenName p (c .name)
 

@@ -1,27 +1,23 @@
 // The status of a command: document 01's tests in their order, and 0 where none applies.
-ghost use mathlib.Core.Bool.{true, _||_};
+ghost use mathlib.Core.Bool.{true, _&&_, _||_};
 ghost use mathlib.Core.Logic.{_⊎_};
 ghost use mathlib.Core.Path.{_≡_};
 ghost use Prim.Native.Nat.{_<_};
-ghost use lib.Dec.{eqb};
-ghost use Rattle.geometry.specs.Limits.{names, mostAlphabet};
+ghost use lib.Dec.{eqb, leb};
+ghost use Rattle.geometry.specs.Limits.{names};
 ghost use Rattle.machine.specs.Machine.{trees};
 ghost use Rattle.pool.specs.Meaning.{meaningOf};
-ghost use Rattle.pool.specs.Names.{treeOf};
 ghost use Rattle.pool.specs.Shares.{unpromisedShares};
-ghost use Rattle.pool.specs.Sound.{OpenName, Sound};
+ghost use Rattle.pool.specs.Sound.{Sound};
 ghost use Rattle.protocol.specs.Commands.{insertCode, deleteCode, accessCode, rankCode, selectCode, rows, rowOf};
 ghost use Rattle.protocol.specs.Refusals.{listed, isNameAllowed, isUnusedZero};
 ghost use Rattle.protocol.specs.State.{isOpen};
-ghost use Rattle.sequence.specs.Definition1.{count};
-ghost use Rattle.shape.specs.Trees.{marksT};
 ghost use Rattle.frames.specs.Statuses.{statusIn, Opening, Naming, Asking};
 use geometry::Record;
 use pool::read_record;
 use protocol::Answer;
 use protocol::Command;
-use query::length;
-use query::rank;
+use query::count;
 use sound::promised;
 
 // The name byte of the command that names none.
@@ -192,6 +188,16 @@ fn named_status(pool: &[u8], c: Command) -> u8
     0
 }
 
+// Whether a number is a place of a range.
+fn is_place(number: u32, first: u32, last: u32) -> bool
+    ensures { λ r. ⌜ r ≡ (leb first number && leb number last) ⌝ }
+{
+    if number < first {
+        return false;
+    }
+    number <= last
+}
+
 // The status of an insert into an open name.
 fn insertion_status(pool: &[u8], c: Command) -> u8
     requires { ⌜ Asking (now pool) c × (c .code ≡ insertCode) ⌝ }
@@ -201,10 +207,7 @@ fn insertion_status(pool: &[u8], c: Command) -> u8
     if c.symbol >= found.alphabet {
         return Answer::SYMBOL_OUTSIDE;
     }
-    if c.number == 0 {
-        return Answer::PLACE_OUTSIDE;
-    }
-    if c.number > found.length as u32 + 1 {
+    if !is_place(c.number, 1, found.length as u32 + 1) {
         return Answer::PLACE_OUTSIDE;
     }
     if found.length as usize == Record::MARKS_PER_SHARE * (found.q as usize) {
@@ -219,10 +222,7 @@ fn place_status(pool: &[u8], c: Command) -> u8
     ensures { λ r. ⌜ r ≡ statusIn (now (pool .entry)) c ⌝ }
 {
     let found = read_record(pool, c.name as usize);
-    if c.number == 0 {
-        return Answer::PLACE_OUTSIDE;
-    }
-    if c.number > found.length as u32 {
+    if !is_place(c.number, 1, found.length as u32) {
         return Answer::PLACE_OUTSIDE;
     }
     0
@@ -237,7 +237,7 @@ fn rank_status(pool: &[u8], c: Command) -> u8
     if c.symbol >= found.alphabet {
         return Answer::SYMBOL_OUTSIDE;
     }
-    if c.number > found.length as u32 {
+    if !is_place(c.number, 0, found.length as u32) {
         return Answer::PLACE_OUTSIDE;
     }
     0
@@ -255,16 +255,8 @@ fn selection_status(pool: &[u8], c: Command) -> u8
     if c.number == 0 {
         return Answer::ORDINAL_OUTSIDE;
     }
-    if c.number as usize > count_of(pool, c.name as usize, c.symbol) {
+    if c.number as usize > count(pool, c.name as usize, c.symbol) {
         return Answer::ORDINAL_OUTSIDE;
     }
     0
-}
-
-// How many marks c an open name has.
-fn count_of(pool: &[u8], name: usize, c: u8) -> usize
-    requires { ⌜ (name < names) × OpenName (now pool) name × (c < mostAlphabet) ⌝ }
-    ensures { λ r. ⌜ r ≡ count c (marksT (treeOf (now (pool .entry)) name)) ⌝ }
-{
-    rank(pool, name, c, length(pool, name))
 }

@@ -3,7 +3,7 @@
 use mathlib.Core.Path.{_≡_}
 use mathlib.Core.List.{List, _++_}
 use mathlib.Core.Logic.{_⊎_, _≢_}
-use Prim.Native.Nat.{ℕ, _*_, _%_, _≤_}
+use Prim.Native.Nat.{ℕ, _%_, _≤_}
 use lib.ListN.{length, drop}
 use Rattle.geometry.specs.Limits.{frameSize, longestCommands}
 use Rattle.index.specs.Runs.{Runs, commandsIn}

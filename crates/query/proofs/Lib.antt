@@ -3,3 +3,4 @@ pub mod Trees
 pub mod Steps
 pub mod Descents
 pub mod Opened
+pub mod Counted

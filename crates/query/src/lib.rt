@@ -3,6 +3,7 @@ mod by_name;
 mod descent;
 
 pub use by_name::access;
+pub use by_name::count;
 pub use by_name::length;
 pub use by_name::rank;
 pub use by_name::select;

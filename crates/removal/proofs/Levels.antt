@@ -3,16 +3,6 @@
 use mathlib.Core.Path.{_≡_, refl, sym, subst}
 use Prim.Native.Nat.{ℕ, zero, suc, _-_}
 use native.Mathlib.Omega.{arith}
-use Rattle.geometry.specs.Layout.{leastBranch, mostBranch}
-use Rattle.shape.specs.Sizes.{oneToAByte, least, most}
-
-pub least-branches : (level : ℕ) → (level ≡ 0 → ⊥) → leastBranch ≡ least oneToAByte level
-least-branches zero some = absurd (some refl)
-least-branches (suc h) some = refl
-
-pub most-branches : (level : ℕ) → (level ≡ 0 → ⊥) → mostBranch ≡ most oneToAByte level
-most-branches zero some = absurd (some refl)
-most-branches (suc h) some = refl
 
 -- what holds at a leaf, and at any branch with the level below it
 pub at-leaf : (P : ℕ → Type 0) (level : ℕ) → level ≡ 0 → P 0 → P level

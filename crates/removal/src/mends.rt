@@ -1,8 +1,8 @@
 // A branch whose child lost a mark. The level is the child's, one below the branch's.
 ghost use Rattle.removal.specs.Mends.{ShortReady, SettleReady, Mended};
-use crate::nodes::least_entries;
 use crate::pairs::mend_pair;
 use entries::entry_count;
+use entries::least_entries;
 use entries::link;
 use entries::take_mark;
 

@@ -1,36 +1,12 @@
 // Two nodes of one level, leaves or branches: their entries joined in one, or shared out, half to each.
-ghost use mathlib.Core.Path.{_≡_};
 ghost use Prim.Native.Nat.{_+_, _≤_, _<_};
-ghost use Rattle.shape.specs.Sizes.{oneToAByte, least, most};
+ghost use Rattle.shape.specs.Sizes.{oneToAByte, most};
 ghost use Rattle.pool.specs.Blocks.{entries};
 ghost use Rattle.removal.specs.Mends.{TwoNodes, NodesJoined, NodesShared};
 use blocks::branch::join_branches;
 use blocks::branch::share_branches;
 use blocks::leaf::join_leaves;
 use blocks::leaf::share_leaves;
-use geometry::Record;
-
-// How many entries a node of a level has at least, if it is no root.
-pub fn least_entries(level: usize) -> usize
-    ensures { λ r. ⌜ r ≡ least oneToAByte level ⌝ }
-{
-    if level == 0 {
-        Record::LEAST_LEAF
-    } else {
-        Record::LEAST_BRANCH
-    }
-}
-
-// How many entries a node of a level has at most.
-pub fn most_entries(level: usize) -> usize
-    ensures { λ r. ⌜ r ≡ most oneToAByte level ⌝ }
-{
-    if level == 0 {
-        Record::MOST_LEAF
-    } else {
-        Record::MOST_BRANCH
-    }
-}
 
 // Puts the right node's entries behind the left one's.
 pub fn join_nodes(pool: &mut [u8], level: usize, left: usize, right: usize)

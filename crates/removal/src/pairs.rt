@@ -5,11 +5,11 @@ ghost use Rattle.pool.specs.Blocks.{entries};
 ghost use Rattle.removal.specs.Mends.{PairReady, PairOf, PairMended};
 use crate::map::give_back;
 use crate::nodes::join_nodes;
-use crate::nodes::most_entries;
 use crate::nodes::share_nodes;
 use blocks::branch::remove_entry;
 use entries::entry_count;
 use entries::link;
+use entries::most_entries;
 use entries::set_entry;
 use entries::summary_of;
 

@@ -18,7 +18,7 @@ use Rattle.shape.specs.Sizes.{oneToAByte, most}
 use Rattle.sound.specs.Parts.{MarksFit}
 use Rattle.sound.specs.Says.{Says}
 use Rattle.sound.proofs.Deciding.{say-yes, say-no}
-use Rattle.sound.proofs.Levels.{most-leaf}
+use Rattle.entries.proofs.Levels.{most-leaf}
 
 -- so many marks from the front are below the alphabet's size
 abbrev pub BelowTo : List ℕ → ℕ → ℕ → ℕ → Type 0

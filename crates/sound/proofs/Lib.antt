@@ -2,6 +2,7 @@ pub mod Deciding
 pub mod Levels
 pub mod Stretches
 pub mod Leaves
+pub mod Paddings
 pub mod Claims
 pub mod Walks
 pub mod Entering

@@ -20,7 +20,7 @@ use Rattle.sequence.specs.Alphabet.{sumBelow}
 use Rattle.shape.specs.Sizes.{oneToAByte, least, most}
 use Rattle.sound.specs.Parts.{Repeats, Matches}
 use Rattle.sound.specs.Says.{Says}
-use Rattle.sound.proofs.Levels.{least-branch}
+use Rattle.entries.proofs.Levels.{least-branch}
 use Rattle.sound.proofs.Deciding.{say-no, say-same, say-equal}
 
 -- so many entries fit a branch

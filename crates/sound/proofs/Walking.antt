@@ -22,7 +22,7 @@ use Rattle.sound.specs.Maps.{Walked}
 use Rattle.sound.specs.Parts.{MarksFit, SoundUnder, WalkedTree, SoundChildren, Matches}
 use Rattle.sound.specs.Says.{Says}
 use Rattle.sound.proofs.Deciding.{say-yes, denied}
-use Rattle.sound.proofs.Levels.{most-branch}
+use Rattle.entries.proofs.Levels.{most-branch}
 use Rattle.sound.proofs.Walks.{walk-no, walk-same, walk-both, walk-fails, walk-test, walk-found}
 
 -- What stands below a block: the blocks that were walked, and the marks of a leaf.

@@ -7,7 +7,7 @@ use mathlib.Core.Path.{_≡_}
 use Prim.Native.Nat.{ℕ, zero, suc, _+_, _*_, _≤_, _<_}
 use lib.ListN.{length}
 use Rattle.geometry.specs.Layout as Layout
-use Rattle.geometry.specs.Limits.{leastAlphabet, mostAlphabet, marksPerShare, mostShares}
+use Rattle.geometry.specs.Limits.{blockSize, leastAlphabet, mostAlphabet, marksPerShare, mostShares}
 use Rattle.sequence.specs.Alphabet.{AllBelow}
 use Rattle.sequence.specs.Definition1.{count}
 use Rattle.shape.specs.Sizes.{oneToAByte, least}
@@ -56,9 +56,14 @@ pub record Matches (p : List ℕ) (alphabet h b k child : ℕ) : Type 0 where
   pub fit : MarksFit p alphabet h child
   pub same : Repeats p h b k child
 
--- no mark c is told of a leaf, or as many as it has, and c is below the alphabet's size
-abbrev pub Claim : List ℕ → ℕ → ℕ → ℕ → ℕ → Type 0
-Claim p leaf alphabet c told = (told ≡ 0) ⊎ ((told ≡ count c (leafMarks p leaf)) × (c < alphabet))
+-- a leaf's marks filled up to a block's length: every symbol stands in both equally often
+pub record Padded (leaf marks : List ℕ) : Type 0 where
+  pub long : length marks ≡ blockSize
+  pub counts : (c : ℕ) → c < mostAlphabet → count c marks ≡ count c leaf
+
+-- no mark c is told, or as many as there are, and c is below the alphabet's size
+abbrev pub Claim : List ℕ → ℕ → ℕ → ℕ → Type 0
+Claim marks alphabet c told = (told ≡ 0) ⊎ ((told ≡ count c marks) × (c < alphabet))
 
 -- an open name's record, its tree aside
 pub record OpenRecord (p : List ℕ) (name : ℕ) : Type 0 where

@@ -6,7 +6,7 @@ use crate::directory::header_sound;
 use crate::names::check_names;
 use geometry::Record;
 
-mod blocks;
+mod block;
 mod directory;
 mod names;
 mod summaries;

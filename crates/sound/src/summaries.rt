@@ -1,19 +1,24 @@
 // What a block's own bytes say of its marks, and whether its parent's entry repeats it.
 ghost use mathlib.Core.Path.{_≡_};
 ghost use Prim.Native.Nat.{_≤_, _<_};
+ghost use lib.ListN.{length};
 ghost use Rattle.geometry.specs.Layout.{mostLeaf, leastBranch, mostBranch};
-ghost use Rattle.geometry.specs.Limits.{mostAlphabet};
-ghost use Rattle.pool.specs.Blocks.{entries};
+ghost use Rattle.geometry.specs.Limits.{blockSize, mostAlphabet};
+ghost use Rattle.pool.specs.Blocks.{entries, leafMarks, countBelow};
 ghost use Rattle.pool.specs.Bytes.{shares};
 ghost use Rattle.pool.specs.Trees.{ownMarks, ownCount};
+ghost use Rattle.sequence.specs.Alphabet.{sumBelow};
 ghost use Rattle.shape.specs.Sizes.{oneToAByte, least, most};
-ghost use Rattle.sound.specs.Parts.{Repeats, Matches, Claim};
+ghost use Rattle.sound.specs.Parts.{Repeats, Matches, Padded, Claim};
 ghost use Rattle.sound.specs.Says.{Says};
 use entries::count_below;
 use entries::entry_count;
 use entries::marks_below;
 use geometry::Record;
 use sequence::count_in;
+
+// What stands behind a leaf's marks where they are filled up.
+const NO_SYMBOL: u8 = 255;
 
 // Whether entry k of a branch is the summary of the block `child`, of a level; and of a leaf whether its marks are below the alphabet's size.
 pub fn repeats(pool: &[u8], level: usize, b: usize, k: usize, child: usize, alphabet: u8) -> bool
@@ -28,8 +33,8 @@ pub fn repeats(pool: &[u8], level: usize, b: usize, k: usize, child: usize, alph
     branch_repeats(pool, b, k, child)
 }
 
-// A leaf by the counts that the entry claims: only symbols that it says are there are counted. If those add up to the leaf's size,
-// there are no others.
+// A leaf by the counts that the entry claims, which must add up to its size: only symbols that it says are there are counted, and none
+// behind the last of them.
 fn leaf_repeats(pool: &[u8], b: usize, k: usize, leaf: usize, alphabet: u8) -> bool
     requires parent { ⌜ (b < shares (now pool)) × (k < mostBranch) ⌝ }
     requires leaf { ⌜ (leaf < shares (now pool)) × (entries (now pool) leaf ≤ mostLeaf) × (alphabet ≤ mostAlphabet) ⌝ }
@@ -40,23 +45,64 @@ fn leaf_repeats(pool: &[u8], b: usize, k: usize, leaf: usize, alphabet: u8) -> b
     if all_told != many {
         return false;
     }
+    if all_claimed(pool, b, k) != many {
+        return false;
+    }
+    let marks = padded(pool, leaf);
+    let mut left = many;
+    let mut c = 0;
+    while left > 0 {
+        let told = count_below(pool, b, k, c);
+        if !claim_holds(&marks, c, told, alphabet) {
+            return false;
+        }
+        left -= told;
+        c += 1;
+    }
+    true
+}
+
+// How many marks an entry claims, all symbols together.
+fn all_claimed(pool: &[u8], b: usize, k: usize) -> usize
+    requires { ⌜ (b < shares (now pool)) × (k < mostBranch) ⌝ }
+    ensures { λ r. ⌜ r ≡ sumBelow mostAlphabet (countBelow (now (pool .entry)) b k) ⌝ }
+{
     let mut sum = 0;
     let mut c = 0;
     while c < Record::MOST_ALPHABET {
-        let told = count_below(pool, b, k, c);
-        if !claim_holds(pool, leaf, many, c, told, alphabet) {
-            return false;
-        }
-        sum += told;
+        sum += count_below(pool, b, k, c);
         c += 1;
     }
-    sum == many
+    sum
 }
 
-// Whether a leaf has as many marks c as told, and c is below the alphabet's size; nothing is counted where none are told.
-fn claim_holds(pool: &[u8], leaf: usize, many: usize, c: usize, told: usize, alphabet: u8) -> bool
-    requires { ⌜ (leaf < shares (now pool)) × (many ≡ entries (now pool) leaf) × (many ≤ mostLeaf) × (c < mostAlphabet) ⌝ }
-    ensures { λ r. ⌜ Says r (Claim (now (pool .entry)) leaf alphabet c told) ⌝ }
+// A leaf's marks, filled up to a block's length with a number that is no symbol. A count over them has no remainder that the compiler would
+// count one by one. The leaf's size and the place are bytes, so that sixteen are filled at once.
+fn padded(pool: &[u8], leaf: usize) -> [u8; Record::BLOCK_SIZE]
+    requires { ⌜ (leaf < shares (now pool)) × (entries (now pool) leaf ≤ mostLeaf) ⌝ }
+    ensures { λ r. ⌜ Padded (leafMarks (now (pool .entry)) leaf) r ⌝ }
+{
+    let at = Record::DIRECTORY_SIZE + Record::BLOCK_SIZE * leaf;
+    let behind = Record::BLOCK_SIZE as u8 - pool[at + Record::COUNT_AT];
+    let mut marks = [0u8; Record::BLOCK_SIZE];
+    let mut left = Record::BLOCK_SIZE as u8;
+    let mut i = 0;
+    while i < Record::BLOCK_SIZE {
+        let mut mark = pool[at + i];
+        if left <= behind {
+            mark = NO_SYMBOL;
+        }
+        marks[i] = mark;
+        left -= 1;
+        i += 1;
+    }
+    marks
+}
+
+// Whether as many of the marks are c as told, and c is below the alphabet's size; nothing is counted where none are told.
+fn claim_holds(marks: &[u8], c: usize, told: usize, alphabet: u8) -> bool
+    requires { ⌜ (length (now marks) ≡ blockSize) × (c < mostAlphabet) ⌝ }
+    ensures { λ r. ⌜ Says r (Claim (now (marks .entry)) alphabet c told) ⌝ }
 {
     if told == 0 {
         return true;
@@ -64,8 +110,7 @@ fn claim_holds(pool: &[u8], leaf: usize, many: usize, c: usize, told: usize, alp
     if c >= alphabet as usize {
         return false;
     }
-    let at = Record::DIRECTORY_SIZE + Record::BLOCK_SIZE * leaf;
-    let own = count_in(pool, at, at + many, c as u8);
+    let own = count_in(marks, 0, Record::BLOCK_SIZE, c as u8);
     told == own
 }
 

@@ -9,10 +9,10 @@ ghost use Rattle.pool.specs.Trees.{blocksAt};
 ghost use Rattle.shape.specs.Nested.{joined};
 ghost use Rattle.sound.specs.Maps.{Walked};
 ghost use Rattle.sound.specs.Parts.{WalkedTree, SoundChildren};
-use crate::blocks::enter;
-use crate::blocks::least_entries;
+use crate::block::enter;
 use crate::summaries::repeats;
 use entries::entry_count;
+use entries::least_entries;
 use entries::link;
 use geometry::Record;
 

@@ -4,7 +4,7 @@ use Prim.Native.Nat.{_-_, _/_}
 use borrow.Author.Needs.{needs}
 use lib.ListN.{length}
 use Rattle.geometry.specs.Limits.{frameSize}
-use Rattle.index.proofs.Progress.{Progress, none-run, room-inside, pool-stays, map-stays, one-run, all-run}
+use Rattle.index.proofs.Progress.{Progress, none-run, pool-stays, map-stays, one-run, all-run}
 use Rattle.index.proofs.run_frames.Statement.{statement}
 use Rattle.index.proofs.run_frames.Tie as tie
 
@@ -27,7 +27,7 @@ execute-requires : tie.Need-execute-requires Inv-loop μ-loop
 execute-requires c κs = search needs
 
 encode-requires : tie.Need-encode-requires Inv-loop μ-loop
-encode-requires c κs = search room-inside
+encode-requires c κs = search needs
 
 add-k : tie.Need-add-k Inv-loop μ-loop
 add-k c = search needs

@@ -1,4 +1,4 @@
--- `sound_cases::main` meets its contract. The loop's invariant: the two buffers are as long as they were. The turns left fall.
+-- `sound_cases::main` meets its contract. The loop's invariant: the head is as long as it was. The turns left fall.
 -- Assumes nothing.
 use borrow.Author.Needs.{needs}
 use mathlib.Core.Path.{_≡_}
@@ -7,13 +7,10 @@ use Rattle.sound_cases.proofs.main.Statement.{statement}
 use Rattle.sound_cases.proofs.main.Tie as tie
 
 abbrev Inv-loop : tie.InvT-loop
-Inv-loop head₀ pool₀ turns₀ head pool turns = (length head ≡ 64) × (length pool ≡ 65536)
+Inv-loop head₀ turns₀ head turns = length head ≡ 64
 
 abbrev μ-loop : tie.MeasureT-loop
-μ-loop head₀ pool₀ turns₀ head pool turns = turns
-
-large-buffer-requires : tie.Need-large-buffer-requires Inv-loop μ-loop
-large-buffer-requires c κs = search needs
+μ-loop head₀ turns₀ head turns = turns
 
 loop-holds : tie.Need-loop-holds Inv-loop μ-loop
 loop-holds c = search needs
@@ -54,7 +51,6 @@ main-spec =
     (tie.spec
     Inv-loop
     μ-loop
-    large-buffer-requires
     loop-holds
     slice-aggregate-read-full
     read-full-requires

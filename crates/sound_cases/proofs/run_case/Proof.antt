@@ -1,46 +1,25 @@
--- `sound_cases::run_case` is safe and ends: the part of the buffer that is lent is as long as the head says, which is at most the buffer's length.
--- Assumes nothing.
-use borrow.Author.Needs.{needs}
+-- `sound_cases::run_case` is safe and ends: the parts of the buffer that are lent are as long as the head says, which is at most the buffer's
+-- length. Assumes nothing.
 use native.Mathlib.Omega.{arith}
 use lib.ListN.{length-append, length-take, length-drop}
+use borrow.Author.Needs.{needs}
 use Rattle.sound_cases.proofs.run_case.Statement.{statement}
 use Rattle.sound_cases.proofs.run_case.Tie as tie
 
 returns : tie.Need-returns
 returns c = search needs
 
-shared-slice-read-wide : tie.Need-shared-slice-read-wide
-shared-slice-read-wide c = search needs
+number-requires : tie.Need-number-requires
+number-requires c κs = search needs
 
-wide-requires : tie.Need-wide-requires
-wide-requires c κs = search needs
-
-shared-slice-read-wide-2 : tie.Need-shared-slice-read-wide-2
-shared-slice-read-wide-2 c = search needs
-
-wide-requires-2 : tie.Need-wide-requires-2
-wide-requires-2 c κs = search needs
-
-mul-told : tie.Need-mul-told
-mul-told c = search needs
-
-add-told : tie.Need-add-told
-add-told c = search needs
-
-shared-slice-read-wide-3 : tie.Need-shared-slice-read-wide-3
-shared-slice-read-wide-3 c = search needs
-
-wide-requires-3 : tie.Need-wide-requires-3
-wide-requires-3 c κs = search needs
-
-mul-told-2 : tie.Need-mul-told-2
-mul-told-2 c = search needs
-
-add-told-2 : tie.Need-add-told-2
-add-told-2 c = search needs
+number-requires-2 : tie.Need-number-requires-2
+number-requires-2 c κs = search needs
 
 returns-2 : tie.Need-returns-2
 returns-2 c = search needs
+
+returns-3 : tie.Need-returns-3
+returns-3 c = search needs
 
 slice-relend-prefix-read-full : tie.Need-slice-relend-prefix-read-full
 slice-relend-prefix-read-full c = search needs
@@ -54,8 +33,8 @@ read-full-requires c κs = search needs
 same-length : tie.Need-same-length
 same-length c = search needs
 
-returns-3 : tie.Need-returns-3
-returns-3 c = search needs
+returns-4 : tie.Need-returns-4
+returns-4 c = search needs
 
 sub-write-all : tie.Need-sub-write-all
 sub-write-all c = search needs
@@ -93,36 +72,29 @@ write-all-requires-3 c κs = search needs
 same-length-2 : tie.Need-same-length-2
 same-length-2 c = search needs
 
-returns-4 : tie.Need-returns-4
-returns-4 c = search needs
+returns-5 : tie.Need-returns-5
+returns-5 c = search needs
 
 same-length-3 : tie.Need-same-length-3
 same-length-3 c = search needs
 
-returns-5 : tie.Need-returns-5
-returns-5 c = search needs
+returns-6 : tie.Need-returns-6
+returns-6 c = search needs
 
 pub run-case-spec : {M : Type 1} → statement M
 run-case-spec =
     tie.close
     (tie.spec
     returns
-    shared-slice-read-wide
-    wide-requires
-    shared-slice-read-wide-2
-    wide-requires-2
-    mul-told
-    add-told
-    shared-slice-read-wide-3
-    wide-requires-3
-    mul-told-2
-    add-told-2
+    number-requires
+    number-requires-2
     returns-2
+    returns-3
     slice-relend-prefix-read-full
     slice-aggregate-read-full
     read-full-requires
     same-length
-    returns-3
+    returns-4
     sub-write-all
     part-write-all-start
     part-write-all-end
@@ -135,6 +107,6 @@ run-case-spec =
     slice-aggregate-write-all-2
     write-all-requires-3
     same-length-2
-    returns-4
+    returns-5
     same-length-3
-    returns-5)
+    returns-6)

@@ -1,7 +1,8 @@
 -- `frames::statuses::place_status` meets its contract: one law for each status that a delete or an access can get.
 -- Assumes nothing.
-use Rattle.frames.proofs.Refused.{place-zero, place-past, place-passes}
+use Rattle.frames.proofs.Refused.{place-outside, place-passes}
 use borrow.Author.Needs.{needs}
+use borrow.Author.Tests.{not-true, not-false}
 use Rattle.frames.proofs.statuses.place_status.Statement.{statement}
 use Rattle.frames.proofs.statuses.place_status.Tie as tie
 
@@ -11,18 +12,25 @@ cast-read-record c = search needs
 read-record-requires : tie.Need-read-record-requires
 read-record-requires c κs = search needs
 
-returns : tie.Need-returns
-returns c = search place-zero
+cast-is-place : tie.Need-cast-is-place
+cast-is-place c = search needs
 
-cast-if2 : tie.Need-cast-if2
-cast-if2 c = search needs
+is-place-requires : tie.Need-is-place-requires
+is-place-requires c κs = search needs
+
+returns : tie.Need-returns
+returns c = search (place-outside, not-true)
 
 returns-2 : tie.Need-returns-2
-returns-2 c = search place-past
-
-returns-3 : tie.Need-returns-3
-returns-3 c = search place-passes
+returns-2 c = search (place-passes, not-false)
 
 pub place-status-spec : {M : Type 1} → statement M
 place-status-spec =
-    tie.close (tie.spec cast-read-record read-record-requires returns cast-if2 returns-2 returns-3)
+    tie.close
+    (tie.spec
+    cast-read-record
+    read-record-requires
+    cast-is-place
+    is-place-requires
+    returns
+    returns-2)

@@ -20,11 +20,11 @@ returns-2 c = search select-zero
 cast-if3 : tie.Need-cast-if3
 cast-if3 c = search needs
 
-cast-count-of : tie.Need-cast-count-of
-cast-count-of c = search needs
+cast-count : tie.Need-cast-count
+cast-count c = search needs
 
-count-of-requires : tie.Need-count-of-requires
-count-of-requires c κs = (search needs, search needs, search select-counts)
+count-requires : tie.Need-count-requires
+count-requires c κs = ((search needs, search needs), search select-counts)
 
 returns-3 : tie.Need-returns-3
 returns-3 c = search select-past
@@ -41,7 +41,7 @@ selection-status-spec =
     returns
     returns-2
     cast-if3
-    cast-count-of
-    count-of-requires
+    cast-count
+    count-requires
     returns-3
     returns-4)

@@ -1,5 +1,6 @@
 -- `frames::statuses::status_of` meets its contract: refused by one of the first three tests, or the later ones decide.
 -- Assumes nothing.
+use Rattle.frames.specs.Statuses.{WellFormed}
 use Rattle.frames.proofs.Forms.{refused-unknown, refused-name, refused-unused, is-listed, well-formed}
 use Rattle.frames.proofs.Refused.{unpromised-passes}
 use borrow.Author.Needs.{needs}
@@ -32,7 +33,7 @@ opening-status-requires : tie.Need-opening-status-requires
 opening-status-requires c κs =
     let tested = c .before .before .before .before in
     let first = tested .before .before .before .before in
-    let formed =
+    let formed : WellFormed (first .before .before .before .args .c) =
     well-formed _ _ _ _
     (first .before .is-known .ensures)
     (not-false _ (first .if1 .left))
@@ -49,7 +50,7 @@ named-status-requires : tie.Need-named-status-requires
 named-status-requires c κs =
     let tested = c .before .before .before .before in
     let first = tested .before .before .before .before in
-    let formed =
+    let formed : WellFormed (first .before .before .before .args .c) =
     well-formed _ _ _ _
     (first .before .is-known .ensures)
     (not-false _ (first .if1 .left))
@@ -57,7 +58,7 @@ named-status-requires c κs =
     (not-false _ (tested .before .before .if2 .left))
     (tested .before .is-unused-zero .ensures)
     (not-false _ (tested .if3 .left)) in
-    record { sound = search needs; formed = formed; opens = search needs; named = search needs }
+    record { sound = search needs; formed = formed; noOpening = search needs; named = search needs }
 
 returns-6 : tie.Need-returns-6
 returns-6 c = search needs

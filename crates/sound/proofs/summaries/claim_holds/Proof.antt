@@ -1,7 +1,7 @@
 -- `sound::summaries::claim_holds` meets its contract: nothing told, a symbol past the alphabet, or a count.
 -- Assumes nothing.
+use Rattle.sound.proofs.Claims.{claim-none, claim-over, claim-counted}
 use borrow.Author.Needs.{needs}
-use Rattle.sound.proofs.Claims.{leaf-ends, claim-none, claim-over, claim-counted}
 use Rattle.sound.proofs.summaries.claim_holds.Statement.{statement}
 use Rattle.sound.proofs.summaries.claim_holds.Tie as tie
 
@@ -11,33 +11,14 @@ returns c = search claim-none
 returns-2 : tie.Need-returns-2
 returns-2 c = search claim-over
 
-mul-at : tie.Need-mul-at
-mul-at c = search needs
-
-add-at : tie.Need-add-at
-add-at c = search needs
-
-add-count-in : tie.Need-add-count-in
-add-count-in c = search needs
-
 cast-count-in : tie.Need-cast-count-in
 cast-count-in c = search needs
 
 count-in-requires : tie.Need-count-in-requires
-count-in-requires c κs = (search needs, search leaf-ends)
+count-in-requires c κs = search needs
 
 returns-3 : tie.Need-returns-3
 returns-3 c = search claim-counted
 
 pub claim-holds-spec : {M : Type 1} → statement M
-claim-holds-spec =
-    tie.close
-    (tie.spec
-    returns
-    returns-2
-    mul-at
-    add-at
-    add-count-in
-    cast-count-in
-    count-in-requires
-    returns-3)
+claim-holds-spec = tie.close (tie.spec returns returns-2 cast-count-in count-in-requires returns-3)

@@ -15,8 +15,8 @@ use Rattle.sound.proofs.walk.check_children.Kinds as check-children-kin
 use Rattle.sound.proofs.walk.+check_block+check_children.Lts-check_children as check-children-lts
 use Rattle.entries.proofs.entry_count.Reads as entry-count-reads
 use Rattle.entries.proofs.link.Reads as link-reads
-use Rattle.sound.proofs.blocks.enter.Reads as enter-reads
-use Rattle.sound.proofs.blocks.least_entries.Reads as least-entries-reads
+use Rattle.sound.proofs.block.enter.Reads as enter-reads
+use Rattle.entries.proofs.least_entries.Reads as least-entries-reads
 use Rattle.sound.proofs.summaries.repeats.Reads as repeats-reads
 use Rattle.sound.proofs.walk.+check_block+check_children.{statement}
 use Rattle.sound.proofs.walk.+check_block+check_children.Tie.{close}

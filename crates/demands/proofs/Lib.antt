@@ -1,0 +1,13 @@
+pub mod Eights
+pub mod FramesRun
+pub mod AcceptedCalls
+pub mod FirstDemand
+pub mod FreshPools
+pub mod PlaceDepths
+pub mod SessionsRun
+pub mod Doings
+pub mod SecondDemand
+pub mod OneNameRuns
+pub mod OwnShapes
+pub mod ThirdDemand
+pub mod Premises

@@ -1,0 +1,73 @@
+-- The depth of a place of an open name of a sound pool: the path's blocks follow one another's links, the last bears the place.
+-- Assumes nothing.
+use mathlib.Core.Path.{_≡_, refl, sym, ap, _∙_}
+use mathlib.Core.List.{List, [], _∷_, _++_}
+use mathlib.Core.Logic.{⊎-elim}
+use Prim.Native.Nat.{ℕ, zero, suc, _-_, _≤_, _<_}
+use native.Mathlib.Nat.{eq-zero-or-pos}
+use native.Mathlib.Omega.{arith}
+use lib.ListN.{length, getD, length-append}
+use Rattle.geometry.specs.Limits.{names, mostShares}
+use Rattle.machine.specs.Machine.{FilledPart, FilledState}
+use Rattle.pool.proofs.Meanings.{closed-meaning, open-meaning, part-meaning, no-part}
+use Rattle.pool.proofs.SoundNames.{open-filled, open-readable}
+use Rattle.pool.proofs.Ways.{Way, path-way, length-pathAt, path-ends}
+use Rattle.pool.specs.Blocks.{leafMarks, link}
+use Rattle.pool.specs.Bytes.{shares}
+use Rattle.pool.specs.Meaning.{meaning}
+use Rattle.pool.specs.Names.{recordOf, treeOf, pathOf}
+use Rattle.pool.specs.Sound.{OpenName, Sound}
+use Rattle.pool.specs.Trees.{shapeAt, entered, pathAt}
+use Rattle.protocol.specs.State.{partOf}
+use Rattle.shape.proofs.Descent.{path-leads}
+use Rattle.shape.specs.Paths.{Leads, path, leafAt, leftOf, rightOf}
+use Rattle.shape.specs.Trees.{marksT}
+use Rattle.demands.specs.Demand2.{Linked, lastOf, FromRootTo}
+
+module _ (p : List ℕ) where
+  first-entered : (b : ℕ) (ks : List ℕ) → getD (entered p b ks) 0 0 ≡ b
+  first-entered b [] = refl
+  first-entered b (k ∷ ks) = refl
+
+  linked-entered : (h b : ℕ) (ks : List ℕ) → Way p h b ks → Linked p (entered p b ks)
+  linked-entered h b [] way = tt
+  linked-entered zero b (k ∷ ks) way = absurd way
+  linked-entered (suc h) b (k ∷ []) way = ((k, way .0, refl), tt)
+  linked-entered (suc h) b (k ∷ l ∷ ks) way = ((k, way .0, refl), linked-entered h (link p b k) (l ∷ ks) (way .1))
+
+  -- the path to a place of an open name
+  pub path-to-place : (name : ℕ) → OpenName p name → (i : ℕ) → 1 ≤ i → i ≤ length (marksT (treeOf p name))
+      → FromRootTo p (pathOf p name i) (recordOf p name .root) i (marksT (treeOf p name))
+  path-to-place name open-name i low high =
+      let h = recordOf p name .height in
+      let b = recordOf p name .root in
+      let x = shapeAt p h b in
+      let ks = path length h i x in
+      let leads : Leads length h i ks x = path-leads length length-append h i x in
+      let number : length (pathAt p h i b) - 1 ≡ h = omega (arith, length-pathAt p h i b) in
+      let end : lastOf (pathOf p name i) ≡ getD (pathAt p h i b) h 0 = ap (λ n. getD (pathAt p h i b) n 0) number in
+      let leaf : leafMarks p (lastOf (pathOf p name i)) ≡ leafAt h ks x = ap (leafMarks p) end ∙ sym (path-ends p h i b (open-readable p name open-name)) in
+      record {
+        first = first-entered b ks;
+        linked = linked-entered h b ks (path-way p length h i b (open-readable p name open-name));
+        left = leftOf h ks x;
+        right = rightOf h ks x;
+        marks = leads .marks ∙ ap (λ l. leftOf h ks x ++ (l ++ rightOf h ks x)) (sym leaf);
+        past = omega (arith, leads .past);
+        within = omega (arith, leads .within high, ap length leaf);
+      }
+
+  -- A sound pool's meaning.
+  module _ (sound : Sound p) where
+    filled-part : (name : ℕ) → name < names → FilledPart (partOf (meaning p) name)
+    filled-part name low =
+        rw (part-meaning p name low)
+        (⊎-elim (λ c. rw (closed-meaning p name c) tt) (λ o. rw (open-meaning p name o) (open-filled p name o)) (sound .each name low))
+
+    pub filled-meaning : FilledState (meaning p)
+    filled-meaning name =
+        ⊎-elim (λ (high : names - name ≡ 0). rw (no-part p name (omega arith)) tt) (λ (low : 0 < names - name). filled-part name (omega arith))
+        (eq-zero-or-pos (names - name))
+
+    pub shares-within : shares p ≤ mostShares
+    shares-within = omega (arith, sound .allowed .longest)

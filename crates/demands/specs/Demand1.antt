@@ -1,0 +1,89 @@
+-- Demand 1: "The index takes all pools, command frames and answer room that anyone can lend, always ends, relies on no check of the
+-- caller's. A refused call changes no byte of the three buffers. A refused command changes no byte of the pool and still gets its
+-- answer frame."
+-- Assumes nothing.
+use mathlib.Core.Path.{_≡_}
+use mathlib.Core.List.{List, map}
+use mathlib.Core.Logic.{_⊎_, _↔_, _≢_}
+use Prim.Native.Nat.{ℕ, _*_}
+use lib.ListN.{length, drop}
+use borrow.Fn.World.{World, Pr, ArgsD, ResD}
+use contract.Lifetimes.{Lfts}
+use contract.Notation.{connectives}
+use denote.Ref.{now}
+use denote.Triple.Clauses.{AtExit}
+use Rattle.fortran.proofs.mark as mark
+use Rattle.fortran.proofs.mark.Reads as MarkReads
+use Rattle.fortran.proofs.mark.Statement as Mark
+use Rattle.fortran.specs.Mark.{markOf}
+use Rattle.geometry.specs.Limits.{frameSize}
+use Rattle.index.specs.Alike.{SameOutcome}
+use Rattle.index.specs.Calls.{Formats, StatusOfCall, Ran}
+use Rattle.index.specs.Runs.{commandsIn}
+use Rattle.index.specs.declared.Outcome.{Outcome}
+use Rattle.pool.specs.Formatted.{formatted}
+use Rattle.pool.specs.Sound.{LengthAllowed}
+use Rattle.protocol.specs.Frames.{bytesOfAnswer}
+use Rattle.protocol.specs.Respond.{refused}
+use Rattle.sequence.specs.Items.{All}
+use Rattle.demands.specs.Accepted.{Frame, InTurn, framesRun, answerFrames}
+
+-- format, whatever the bytes: 0 and a formatted pool, or 101 and every byte as it was
+pub record FormatTakesAll (p : List ℕ) (status : ℕ) (q : List ℕ) : Type 0 where
+  pub number : (status ≡ 0) ⊎ (status ≡ 101)
+  pub when : (status ≡ 0) ↔ LengthAllowed (length p)
+  pub refused : status ≢ 0 → q ≡ p
+  pub accepted : status ≡ 0 → q ≡ formatted (length p)
+
+-- a refused command: its answer frame holds the number, the name and zeros, and no byte of the pool changes
+abbrev pub RefusedCommand : Frame → Type 0
+RefusedCommand f = f .answer .status ≢ 0 → (f .answer ≡ refused (f .answer .status) (f .command)) × (f .after ≡ f .before)
+
+-- an accepted call: each command is run in its turn and has its answer frame, a refused one too; the room behind these is as it was
+pub record AcceptedCall (p commands room : List ℕ) (r : Outcome) (q filled : List ℕ) (frames : List Frame) : Type 0 where
+  pub each : map (λ f. f .command) frames ≡ commandsIn commands
+  pub turns : InTurn p frames q
+  pub answers : map (λ f. bytesOfAnswer (f .answer)) frames ≡ answerFrames commands filled
+  pub count : r .count ≡ length frames
+  pub whole : length commands ≡ frameSize * r .count
+  pub behind : drop (length commands) filled ≡ drop (length commands) room
+  pub refusals : All RefusedCommand frames
+
+-- run, whatever the bytes: the first of document 01's reasons that applies gives the number. Refused, all lent buffers are as they were;
+-- the commands always are, since they are lent to be read alone
+pub record RunTakesAll (p commands room : List ℕ) (r : Outcome) (q filled : List ℕ) (ran : Ran p commands room r q filled) : Type 0 where
+  pub table : StatusOfCall p commands room (r .status)
+  pub refused : r .status ≢ 0 → (r .count ≡ 0) × (q ≡ p) × (filled ≡ room)
+  pub accepted : (zero : r .status ≡ 0) → AcceptedCall p commands room r q filled (framesRun ran zero)
+  pub long : (length q ≡ length p) × (length filled ≡ length room)
+
+-- mark, whatever the line: one of six numbers, and no refusal
+abbrev pub MarkTakesAll : ℕ → Type 0
+MarkTakesAll r = (r ≡ 0) ⊎ (r ≡ 1) ⊎ (r ≡ 2) ⊎ (r ≡ 3) ⊎ (r ≡ 4) ⊎ (r ≡ 15)
+
+-- What the calls do.
+
+pub record Demand1 : Type 0 where
+  pub format : (p : List ℕ) (status : ℕ) (q : List ℕ) → Formats p status q → FormatTakesAll p status q
+  pub run : (p commands room : List ℕ) (r : Outcome) (q filled : List ℕ) (ran : Ran p commands room r q filled)
+      → RunTakesAll p commands room r q filled ran
+  -- and no two outcomes differ, but in the bytes of pools that mean the same
+  pub alone : (p commands room : List ℕ) (r : Outcome) (q filled : List ℕ) (r′ : Outcome) (q′ filled′ : List ℕ) → Ran p commands room r q filled
+      → Ran p commands room r′ q′ filled′ → SameOutcome r q filled r′ q′ filled′
+  pub mark : (line : List ℕ) (r : ℕ) → r ≡ markOf line → MarkTakesAll r
+
+-- That the calls end, rely on nothing, and promise what is said above.
+
+-- a condition that says nothing, and one that says this
+abbrev pub Nothing : (w : World) → Pr w
+Nothing w = connectives (w .𝓤) .⊤ₛ
+
+abbrev pub Says : (w : World) → Type 0 → Pr w
+Says w This = connectives (w .𝓤) .⌜_⌝ This
+
+-- each call's code, on whatever it is lent, ends safely and keeps its contract, which asks for nothing and promises the definition above
+pub record Demand1Ends : Type 2 where
+  pub markEnds : (M : Type 1) → Mark.statement M
+  pub markAsks : (κs : Lfts 1) (a : ArgsD mark.signature κs) (w : World) → MarkReads.requires κs a tt w ≡ Nothing w
+  pub markPromises : (κs : Lfts 1) (a : ArgsD mark.signature κs) (r : ResD mark.signature κs) (s : AtExit mark.ended κs) (w : World)
+      → MarkReads.ensures κs a tt r s w ≡ Says w (r ≡ markOf (now (a .0)))

@@ -1,0 +1,1 @@
+// The three demands, over the public contracts: definitions in specs/, proofs in proofs/.
