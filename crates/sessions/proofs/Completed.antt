@@ -2,16 +2,16 @@
 -- frames, put there, make the answers to all lines. The loop that puts them goes line by line: what stands before, and what will be made
 -- of the rest, are always the whole.
 -- Assumes nothing.
-use mathlib.Core.Bool.{true, false, cond}
+use mathlib.Core.Bool.{true, false}
 use mathlib.Core.Path.{_≡_, refl, sym, ap, ap₂, _∙_}
 use mathlib.Core.List.{List, [], _∷_, _++_, append-assoc, append-nil}
-use Prim.Native.Nat.{ℕ, zero, suc, _+_, _-_, _*_, _≤_, _<_}
+use Prim.Native.Nat.{ℕ, suc, _+_, _-_, _*_, _≤_, _<_}
 use native.Mathlib.Nat.{add-zero, sub-zero}
 use native.Mathlib.Decide.{ℕ-discrete}
 use native.Mathlib.Omega.{arith}
 use borrow.Author.Tests.{eq-eqb, ne-eqb}
 use lib.Dec.{eqb}
-use lib.ListN.{length, getD, take, drop, length-append}
+use lib.ListN.{length, getD, take, drop}
 use lib.Seq.{take-at, drop-at, take-all, take-add, drop-drop, getD-drop, paste, length-paste, take-paste, drop-paste}
 use Rattle.geometry.specs.Limits.{frameSize}
 use Rattle.hex.specs.Digits.{digitOf, digitsOf}
@@ -28,7 +28,7 @@ use Rattle.protocol.specs.declared.Command.{Command}
 use Rattle.shape.specs.Nested.{joined}
 use Rattle.shape.specs.Trees.{Tree}
 use Rattle.sessions.specs.Batch.{draftOf, keptByte, keptIn, lineOfBytes, completed, PutsAnswer, Completes}
-use Rattle.sessions.specs.Session.{badAnswer, responseTo, answersToLines, stateAfterLines, lineOfAnswer}
+use Rattle.sessions.specs.Session.{badAnswer, answersToLines, stateAfterLines, lineOfAnswer}
 use Rattle.sessions.proofs.Digits.{line-of-bytes}
 use Rattle.sessions.proofs.Framed.{commandFrom, commandsOf}
 

@@ -1,15 +1,15 @@
 -- From chunk to chunk. The lines of a call that was accepted are answered from the state that the pool stood for; put behind the lines
 -- before them, they are the session so far.
 -- Assumes nothing.
-use mathlib.Core.Bool.{Bool, true, false}
+use mathlib.Core.Bool.{Bool, false}
 use mathlib.Core.Logic.{inr}
 use mathlib.Core.Path.{_≡_, refl, sym, ap, ap₂, _∙_}
-use mathlib.Core.List.{List, [], _∷_, _++_, map, map-append, append-nil, append-assoc}
-use Prim.Native.Nat.{ℕ, _+_, _-_, _*_, _/_, _%_, _≤_, _<_}
+use mathlib.Core.List.{List, [], _∷_, _++_, map, map-append, append-nil}
+use Prim.Native.Nat.{ℕ, _+_, _-_, _*_, _/_, _≤_}
 use native.Mathlib.Omega.{arith}
 use lib.ListN.{length, take, drop, length-map, take-append-drop}
 use lib.Seq.{length-take-le}
-use Rattle.geometry.specs.Limits.{frameSize, longestCommands, programPool, directorySize, blockSize}
+use Rattle.geometry.specs.Limits.{frameSize, longestCommands, directorySize, blockSize}
 use Rattle.hex.specs.Lines.{frameOf, lineSize}
 use Rattle.hex.specs.declared.read.Reading.{Reading}
 use Rattle.index.specs.Calls.{Formats, Answered, Ran}
@@ -17,7 +17,7 @@ use Rattle.index.specs.Runs.{commandsIn}
 use Rattle.index.specs.declared.Outcome.{Outcome}
 use Rattle.index.proofs.Following.{runs-sound}
 use Rattle.index.proofs.Outcomes.{one-status, room-by-machine, meaning-by-machine}
-use Rattle.lines.specs.Lines.{Stands, Holds, Finishes, ended, left, linesOf, lastLine}
+use Rattle.lines.specs.Lines.{Stands, Holds, Finishes, ended, left, linesOf}
 use Rattle.lines.specs.declared.Gathered.{Gathered}
 use Rattle.lines.proofs.Cut.{ended-append, left-append}
 use Rattle.lines.proofs.Held.{no-last-line, last-line}
@@ -25,7 +25,7 @@ use Rattle.machine.specs.Machine.{trees}
 use Rattle.pool.specs.Formatted.{formatted}
 use Rattle.pool.specs.Meaning.{meaning}
 use Rattle.pool.specs.Sound.{LengthAllowed, Sound}
-use Rattle.pool.proofs.FormattedSound.{length-formatted, formatted-sound, formatted-meaning}
+use Rattle.pool.proofs.FormattedSound.{formatted-sound, formatted-meaning}
 use Rattle.protocol.specs.Frames.{bytesOfAnswer}
 use Rattle.protocol.specs.Respond.{answersTo, stateAfter}
 use Rattle.protocol.specs.State as State
@@ -35,7 +35,6 @@ use Rattle.shape.proofs.Folds.{joined-append}
 use Rattle.sessions.specs.Batch.{draftOf, bytesOf, keptIn, completed, PutsLine, BatchRead, Completes, Asks, Answers}
 use Rattle.sessions.specs.Session.{responseTo, answersToLines, stateAfterLines, lineOfAnswer, atStart, writtenFor, sessionOf}
 use Rattle.sessions.specs.Stream.{readFrom, Follows, Starts, TakesIn, Ends}
-use Rattle.sessions.specs.declared.Taken.{Taken}
 use Rattle.sessions.specs.declared.batch.Batch.{Batch}
 use Rattle.sessions.proofs.Completed.{kept-in-drafts, completed-drafts, state-after-lines}
 use Rattle.sessions.proofs.Cut.{frame-of-held}

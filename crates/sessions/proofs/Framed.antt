@@ -1,13 +1,12 @@
 -- The commands of a batch: the bytes of its frames, one behind the other, stand for its frames in order, since what digits spell fits.
 -- Assumes nothing.
 use mathlib.Core.Bool.{Bool, true, false, cond}
-use mathlib.Core.Path.{_≡_, refl, sym, ap, ap₂, _∙_}
+use mathlib.Core.Path.{_≡_, refl, ap, ap₂, _∙_}
 use mathlib.Core.List.{List, [], _∷_, _++_, map}
-use Prim.Native.Nat.{ℕ, zero, suc, _+_, _*_, _/_, _^_, _≤_, _<_}
+use Prim.Native.Nat.{ℕ, _+_, _*_, _^_, _<_}
 use native.Mathlib.Omega.{arith}
-use borrow.Author.Tests.{eqb-true}
 use lib.Dec.{eqb}
-use lib.ListN.{length, take, drop, length-append, length-take, length-drop}
+use lib.ListN.{length, take, drop, length-append, length-take}
 use lib.Seq.{take-all}
 use Rattle.geometry.specs.Limits.{frameSize}
 use Rattle.hex.specs.Digits.{allDigits, numberOf}
@@ -15,7 +14,7 @@ use Rattle.hex.specs.Lines.{frameOf, spelled, lineDigits, isFrame}
 use Rattle.hex.specs.declared.read.Reading.{Reading}
 use Rattle.hex.specs.declared.read.Reading.the-variants.{Frame, Bad}
 use Rattle.hex.proofs.Frames.{all-digits-part}
-use Rattle.hex.proofs.Numbers.{first-of-both, second-of-both, number-fits}
+use Rattle.hex.proofs.Numbers.{second-of-both, number-fits}
 use Rattle.index.specs.Runs.{commandsIn}
 use Rattle.index.proofs.Cutting.{commands-append}
 use Rattle.pool.specs.Bytes.{from}

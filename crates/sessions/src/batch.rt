@@ -1,11 +1,11 @@
-// The lines of one call of the index.
+// The lines of one call of the index. A bad line is answered as it is read; a frame joins the commands, and a line of zeros keeps the place
+// of its answer until the call has been made.
 ghost use mathlib.Core.Path.{_≡_};
-ghost use mathlib.Core.List.{List, _++_};
-ghost use Prim.Native.Nat.{ℕ, _+_, _*_, _≤_, _<_};
-ghost use lib.ListN.{length, getD, take, drop};
+ghost use Prim.Native.Nat.{_+_, _*_, _≤_};
+ghost use lib.ListN.{length, getD, take};
 ghost use Rattle.geometry.specs.Limits.{frameSize};
 ghost use Rattle.hex.specs.Lines.{lineSize};
-ghost use Rattle.sessions.specs.Batch.{PutsLine, ReadsLines, ReadsOn, Asks, Answers, PutsAnswer, Completes, BatchRead, RoomForLine, keptByte, keptIn};
+ghost use Rattle.sessions.specs.Batch.{PutsLine, ReadsOn, Asks, Answers, PutsAnswer, Completes, BatchRead, RoomForLine, keptByte, keptIn};
 use geometry::Record;
 use hex::LINE_SIZE;
 use hex::Reading;

@@ -1,6 +1,5 @@
 // A session with the index: lines of digits that come in chunks, each answered by a line. specs/Session.antt says what is written for a
 // whole input; the functions here follow it chunk by chunk. All lines of a chunk go through one call of the index, as far as there is room.
-ghost use mathlib.Core.Path.{_≡_};
 ghost use Prim.Native.Nat.{_≤_};
 ghost use lib.ListN.{length};
 ghost use Rattle.hex.specs.Lines.{lineSize};
