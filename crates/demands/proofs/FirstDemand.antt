@@ -9,10 +9,10 @@ use Prim.Native.Nat.{ℕ, _<_}
 use native.Mathlib.Nat.{eq-zero-or-pos}
 use native.Mathlib.Omega.{arith}
 use lib.ListN.{length, length-map}
-use Rattle.fortran.proofs.mark.Met as MarkMet
+use Rattle.forfochry.proofs.mark.Met as MarkMet
 use Rattle.fortran.specs.Mark.{markOf, firstThatFits, rules, card}
-use Rattle.index.proofs.format.Met as FormatMet
-use Rattle.index.proofs.run.Met as RunMet
+use Rattle.forfochry.proofs.format.Met as FormatMet
+use Rattle.forfochry.proofs.run.Met as RunMet
 use Rattle.index.proofs.Outcomes.{length-cases, same-outcome}
 use Rattle.index.specs.Calls.{Formats, Ran}
 use Rattle.index.specs.Runs.{commandsIn}

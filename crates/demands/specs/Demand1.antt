@@ -12,17 +12,17 @@ use contract.Lifetimes.{Lfts}
 use contract.Notation.{connectives}
 use denote.Ref.{now}
 use denote.Triple.Clauses.{AtExit}
-use Rattle.fortran.proofs.mark as mark
-use Rattle.fortran.proofs.mark.Reads as MarkReads
-use Rattle.fortran.proofs.mark.Statement as Mark
+use Rattle.forfochry.proofs.mark as mark
+use Rattle.forfochry.proofs.mark.Reads as MarkReads
+use Rattle.forfochry.proofs.mark.Statement as Mark
 use Rattle.fortran.specs.Mark.{markOf}
 use Rattle.geometry.specs.Limits.{frameSize}
-use Rattle.index.proofs.format as format
-use Rattle.index.proofs.format.Reads as FormatReads
-use Rattle.index.proofs.format.Statement as Format
-use Rattle.index.proofs.run as run
-use Rattle.index.proofs.run.Reads as RunReads
-use Rattle.index.proofs.run.Statement as Run
+use Rattle.forfochry.proofs.format as format
+use Rattle.forfochry.proofs.format.Reads as FormatReads
+use Rattle.forfochry.proofs.format.Statement as Format
+use Rattle.forfochry.proofs.run as run
+use Rattle.forfochry.proofs.run.Reads as RunReads
+use Rattle.forfochry.proofs.run.Statement as Run
 use Rattle.index.specs.Alike.{SameOutcome}
 use Rattle.index.specs.Calls.{Formats, StatusOfCall, Ran}
 use Rattle.index.specs.Runs.{commandsIn}
