@@ -7,7 +7,7 @@
    - Each buffer is a pointer and the number of bytes behind it, all readable, and writable where the pointer isn't const. Nothing else
      reads or writes them during the call.
    - The three buffers of forfochry_run don't overlap.
-   - No pointer is null. A buffer of 0 bytes may have any other pointer: nothing is read or written through it.
+   - A buffer of 0 bytes may have any pointer, null too: nothing is read or written through it.
 
    What the library promises of each result and each buffer is docs/CONTRACTS.md. */
 #ifndef FORFOCHRY_H

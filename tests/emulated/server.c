@@ -94,13 +94,16 @@ static int guarded(int k, size n)
     return 1;
 }
 
+/* What a caller passes: an empty buffer has no address at all. */
+static byte *passed(int k, const u64 *length) { return length[k] == 0 ? (byte *)0 : lent(k); }
+
 static u64 serve(u64 call, const u64 *length)
 {
     if (call == FORMAT)
-        return forfochry_format(lent(0), length[0]);
+        return forfochry_format(passed(0, length), length[0]);
     if (call == RUN)
-        return forfochry_run(lent(0), length[0], lent(1), length[1], lent(2), length[2]);
-    return forfochry_mark(lent(0), length[0]);
+        return forfochry_run(passed(0, length), length[0], passed(1, length), length[1], passed(2, length), length[2]);
+    return forfochry_mark(passed(0, length), length[0]);
 }
 
 /* The entry: the stack is aligned as a call leaves it. */
