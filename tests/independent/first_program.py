@@ -63,6 +63,16 @@ def fixed_sessions(program):
     return frames, bad, seen
 
 
+def grown_names(program):
+    """Names grown to the last share of the pool and shrunk again, by each rule of places; the number of frames."""
+    frames = 0
+    for rule in sessions.PLACES:
+        data, wanted = sessions.grown(rule)
+        compare(f"names grown {rule}", data, wanted, run(program, data))
+        frames += wanted.count(b"\n")
+    return frames
+
+
 def small_inputs(program):
     """Edges of document 01, and line ends."""
     bad = sessions.BAD_ANSWER + b"\n"
@@ -126,12 +136,13 @@ def against(program):
     try:
         small_inputs(program)
         talked = conversation(program)
+        grown = grown_names(program)
         frames, bad, seen = fixed_sessions(program)
     except Difference as difference:
         print(f"{program}: {difference}")
         return 1
     counts = ", ".join(f"{status}: {times}" for status, times in seen.items())
-    print(f"{frames} frames and {bad} bad lines, {talked} more in conversation; statuses {counts}")
+    print(f"{frames} frames and {bad} bad lines, {talked} more in conversation and {grown} to the last share and back; statuses {counts}")
     missing = [status for status in STATUSES if not seen[status]]
     if missing:
         print(f"never seen: {missing}")

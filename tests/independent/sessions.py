@@ -250,6 +250,28 @@ EDGES = [
 ]
 
 
+# Where a growing name of n marks takes the next, and a shrinking one gives one back.
+PLACES = {
+    "in sequence": lambda dice, last: last,
+    "at the front": lambda dice, last: 1,
+    "at random": lambda dice, last: dice.between(1, last),
+}
+
+
+def grown(rule):
+    """Four names that have all shares between them, filled in turn until each is full, read mark by mark, and emptied again."""
+    dice, place, share = Dice(1), PLACES[rule], SHARES // 4
+    room = 24 * share
+    frames = [frame(1, name, 16, share) for name in range(4)] + [frame(1, 4, 16, 1)]
+    frames += [frame(3, name, dice.below(16), place(dice, n + 1)) for n in range(room + 1) for name in range(4)]
+    frames += [frame(5, name, 0, n + 1) for n in range(room) for name in range(4)]
+    frames += [frame(code, name, mark, number) for name in range(4) for mark in range(16) for code, number in ((6, room), (7, 1), (7, 20))]
+    frames += [frame(4, name, 0, place(dice, n)) for n in range(room, 0, -1) for name in range(4)]
+    index = Index(SHARES)
+    lines = [one.hex().upper().encode() for one in frames]
+    return b"".join(line + b"\n" for line in lines), b"".join(answer_line(index, line) + b"\n" for line in lines)
+
+
 def make(seed, frames, kind):
     """A session's input, the output wanted, and the number of bad lines in it."""
     session = Session(seed, kind)
