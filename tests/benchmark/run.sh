@@ -3,7 +3,7 @@
 # Writes target/benchmark/table.txt and plot.svg.
 set -euo pipefail
 here=$(cd "$(dirname "$0")" && pwd)
-archive=$(realpath "${1:-$here/../../target/staticlib/libforfochry.a}")
+archive=$(realpath "${1:-$("$here/archive.sh")}")
 out=$here/../../target/benchmark
 mkdir -p "$out"
 "$here/../twin/build.sh" "$out/libtwin.a" --renamed
