@@ -1,9 +1,9 @@
 #!/usr/bin/env bash
-# Compares the library with the twin, a flat array and a rope: tests/benchmark/run.sh [ARCHIVE]
+# Compares the library with the twin, a flat array and a rope, and times the programs: tests/benchmark/run.sh [ARCHIVE]
 # Writes target/benchmark/table.txt and plot.svg.
 set -euo pipefail
 here=$(cd "$(dirname "$0")" && pwd)
-archive=$(realpath "${1:-$("$here/archive.sh")}")
+archive=$(realpath "${1:-$("$here/here.sh" forfochry)}")
 out=$here/../../target/benchmark
 mkdir -p "$out"
 "$here/../twin/build.sh" "$out/libtwin.a" --renamed
@@ -12,3 +12,4 @@ rustc --edition 2024 -C opt-level=3 --crate-name benchmark "$here/benchmark.rs" 
     -C link-arg="$out/libtwin.a" -C link-arg="$out/rope.o" -C link-arg=-lstdc++ -o "$out/benchmark"
 "$out/benchmark" | tee "$out/table.txt"
 python3 "$here/plot.py" "$out/table.txt" "$out/plot.svg"
+python3 "$here/programs.py" "$("$here/here.sh" answers)" "$("$here/here.sh" marks)" | tee -a "$out/table.txt"

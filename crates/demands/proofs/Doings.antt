@@ -17,11 +17,6 @@ use Rattle.protocol.specs.Commands.{
   edited,
   rows,
   rowFor,
-  insertCode,
-  deleteCode,
-  accessCode,
-  rankCode,
-  selectCode,
   unpromisedCode,
 }
 use Rattle.protocol.specs.Refusals.{statusOf}

@@ -32,7 +32,6 @@ use Rattle.demands.specs.Accepted.{Frame, Call, Session, commandsOf}
 use Rattle.demands.specs.Demand2.{
   held,
   part,
-  marks,
   free,
   ByDefinition1,
   InOrder,
