@@ -2,10 +2,9 @@
 -- Assumes nothing.
 use mathlib.Core.Path.{_≡_, refl, sym, ap, ap₂, _∙_}
 use mathlib.Core.List.{List}
-use Prim.Native.Nat.{ℕ, zero, suc, _+_, _-_, _*_, _≤_, _<_, min}
-use native.Mathlib.Nat.{sub-zero}
+use Prim.Native.Nat.{ℕ, _+_, _-_, _*_, _≤_, _<_, min}
 use native.Mathlib.Omega.{arith}
-use lib.ListN.{length, take, drop, length-append}
+use lib.ListN.{length, length-append}
 use Rattle.blocks.specs.Contents.{LeafAt}
 use Rattle.entries.specs.Summaries.{wordsAt}
 use Rattle.geometry.specs.Layout.{entryMarksAt, entryCountsAt, wordSize, leastBranch}
@@ -42,11 +41,8 @@ module _ (p : List ℕ) (level b : ℕ) (leaf : level ≡ 0) where
   unfolding path
   leaf-found i mark before is = at-leaf (λ l. FoundIn p l b i mark before (before + 1)) level leaf (record { is = is; blocks = refl })
 
-  -- places 1 to i are the leaf's first i marks
-  pub leaf-ranked : (c i r : ℕ) → r ≡ count c (take (i - 0) (drop 0 (leafMarks p b))) → r ≡ rank c (flat level (shapeAt p level b)) i
-  unfolding rank
-  leaf-ranked c i r is =
-      at-leaf (λ l. r ≡ rank c (flat l (shapeAt p l b)) i) level leaf (is ∙ ap (λ (n : ℕ). count c (take n (leafMarks p b))) (sub-zero i))
+  pub leaf-ranked : (c i r : ℕ) → r ≡ rank c (leafMarks p b) i → r ≡ rank c (flat level (shapeAt p level b)) i
+  leaf-ranked c i r is = at-leaf (λ l. r ≡ rank c (flat l (shapeAt p l b)) i) level leaf is
 
   pub leaf-selected : (c j r : ℕ) → r ≡ select c (leafMarks p b) j → r ≡ select c (flat level (shapeAt p level b)) j
   leaf-selected c j r is = at-leaf (λ l. r ≡ select c (flat l (shapeAt p l b)) j) level leaf is

@@ -39,7 +39,7 @@ pub fn rank_in(pool: &&[u8], level: u8, b: usize, c: u8, i: usize) -> usize
     ensures { λ r. ⌜ r ≡ rank c (flat level (shapeAt (now (now (pool .entry))) level b)) i ⌝ }
 {
     if level == 0 {
-        return count_marks(*pool, b, 0, i, c);
+        return count_marks(*pool, b, c, i);
     }
     let seat = seat_by(*pool, b, Record::ENTRY_MARKS_AT, i);
     let offset = Record::ENTRY_COUNTS_AT + Record::WORD_SIZE * (c as usize);

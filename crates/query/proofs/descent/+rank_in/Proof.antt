@@ -47,7 +47,7 @@ told t = (
 rank-in-count-marks-requires : (t : ℕ) → rank-in-lts.Need-count-marks-requires (told t) (rank-in-at t) rank-in.Post
 rank-in-count-marks-requires t c κs =
     let start = c .before .before in
-    (leaf-at (start .args .pool .now .now) (start .args .level) (start .args .b) (c .before .if1 .taken) (start .pre .1 .0 .0), omega arith, leaf-place (start .args .pool .now .now) (start .args .level) (start .args .b) (c .before .if1 .taken) (start .args .i) (start .pre .1 .1))
+    (leaf-at (start .args .pool .now .now) (start .args .level) (start .args .b) (c .before .if1 .taken) (start .pre .1 .0 .0), leaf-place (start .args .pool .now .now) (start .args .level) (start .args .b) (c .before .if1 .taken) (start .args .i) (start .pre .1 .1))
 
 rank-in-returns : (t : ℕ) → rank-in-lts.Need-returns (told t) (rank-in-at t) rank-in.Post
 rank-in-returns t c =
