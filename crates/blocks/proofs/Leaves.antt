@@ -6,9 +6,8 @@ use Prim.Native.Nat.{ℕ, _+_, _-_, _*_, _/_, _≤_, _<_}
 use native.Mathlib.Nat.{one-mul}
 use native.Mathlib.Omega.{arith}
 use lib.ListN.{length, take, drop, length-append}
-use lib.Seq.{take-take}
 use Rattle.geometry.specs.Layout.{formAt, countAt, mostLeaf}
-use Rattle.sequence.specs.Definition1.{count, access, select, insert, delete}
+use Rattle.sequence.specs.Definition1.{access, select, insert, delete}
 use Rattle.shape.specs.Level.{middle, halves}
 use Rattle.pool.specs.Blocks.{entries, leafMarks}
 use Rattle.pool.specs.Bytes.{byte, blockAt}
@@ -20,7 +19,7 @@ use Rattle.pool.proofs.Cuts.{cut-length, cut-byte, cut-one}
 use Rattle.blocks.specs.Contents.{contents, LeafAt}
 use Rattle.blocks.specs.Moves.{Opened, Closed, CutOff, Joined, SharedOut}
 use Rattle.blocks.specs.Leaves.{MarkInserted, MarkDeleted, LeafCut, LeavesJoined, LeavesShared}
-use Rattle.blocks.proofs.Stretches.{drop-stretch, contents-other}
+use Rattle.blocks.proofs.Stretches.{contents-other}
 use Rattle.blocks.proofs.Gaps.{gap-filled}
 
 -- a leaf's marks are its entries, one byte each
@@ -39,19 +38,6 @@ module _ (p : List ℕ) (b : ℕ) (leaf : LeafAt p b) where
   pub mark-is : (i : ℕ) → 1 ≤ i → i ≤ length (leafMarks p b) → byte p (blockAt b + (i - 1)) ≡ access (leafMarks p b) i
   unfolding leafMarks access
   mark-is i one within = sym (cut-byte p (blockAt b) (entries p b) (i - 1) (omega (arith, leaf-size)))
-
-  pub stretch-count : (from to c r : ℕ) → from ≤ to → to ≤ length (leafMarks p b)
-      → r ≡ count c (take (blockAt b + to - (blockAt b + from)) (drop (blockAt b + from) p))
-      → r ≡ count c (take (to - from) (drop from (leafMarks p b)))
-  unfolding leafMarks
-  stretch-count from to c r less within is =
-      let a = blockAt b in
-      let n = entries p b in
-      let e : a + to - (a + from) ≡ to - from = omega arith in
-      is ∙ ap (count c)
-      (ap (λ (k : ℕ). take k (drop (a + from) p)) e
-      ∙ sym (take-take (to - from) (n - from) (drop (a + from) p) (omega (arith, leaf-size)))
-      ∙ ap (take (to - from)) (sym (drop-stretch p a from n (omega (arith, leaf-size)) (omega (arith, leaf .inside, leaf .fits)))))
 
   pub found-is : (n c j r : ℕ) → WordAt p (blockAt b + countAt) n → r ≡ select c (take (blockAt b + n - blockAt b) (drop (blockAt b) p)) j
       → r ≡ select c (leafMarks p b) j

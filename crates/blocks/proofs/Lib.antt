@@ -6,3 +6,4 @@ pub mod Shares
 pub mod Leaves
 pub mod Chunks
 pub mod Branches
+pub mod Scans

@@ -1,9 +1,9 @@
 // A leaf's own functions: their contracts speak of its marks. Places count from 1.
 ghost use mathlib.Core.Path.{_≡_};
-ghost use Prim.Native.Nat.{_+_, _-_, _≤_, _<_};
-ghost use lib.ListN.{length, take, drop};
+ghost use Prim.Native.Nat.{_+_, _≤_, _<_};
+ghost use lib.ListN.{length};
 ghost use Rattle.geometry.specs.Layout.{mostLeaf};
-ghost use Rattle.sequence.specs.Definition1.{count, access, select};
+ghost use Rattle.sequence.specs.Definition1.{access, rank, select};
 ghost use Rattle.pool.specs.Blocks.{leafMarks};
 ghost use Rattle.pool.specs.Bytes.{shares};
 ghost use Rattle.blocks.specs.Contents.{LeafAt};
@@ -18,6 +18,9 @@ use pool::put_byte;
 use pool::word;
 use sequence::count_in;
 use sequence::find;
+
+// How many marks a search passes at once.
+const STRIDE: usize = 16;
 
 // How many marks the leaf has.
 pub fn size(pool: &[u8], b: usize) -> usize
@@ -39,23 +42,47 @@ pub fn mark_at(pool: &[u8], b: usize, i: usize) -> u8
     pool[at + (i - 1)]
 }
 
-// How many of the marks behind the first `from`, up to the first `to`, are c.
-pub fn count_marks(pool: &[u8], b: usize, from: usize, to: usize, c: u8) -> usize
-    requires { ⌜ LeafAt (now pool) b × (from ≤ to) × (to ≤ length (leafMarks (now pool) b)) ⌝ }
-    ensures { λ r. ⌜ r ≡ count c (take (to - from) (drop from (leafMarks (now (pool .entry)) b))) ⌝ }
+// How many of the first i marks are c. All bytes of the block are compared, and counted where they are no further than i: the loop has a
+// fixed length and its counters are bytes, so that the compiler takes sixteen at once and leaves no remainder.
+pub fn count_marks(pool: &[u8], b: usize, c: u8, i: usize) -> usize
+    requires { ⌜ LeafAt (now pool) b × (i ≤ length (leafMarks (now pool) b)) ⌝ }
+    ensures { λ r. ⌜ r ≡ rank c (leafMarks (now (pool .entry)) b) i ⌝ }
 {
     let at = Record::DIRECTORY_SIZE + Record::BLOCK_SIZE * b;
-    count_in(pool, at + from, at + to, c)
+    let behind = Record::BLOCK_SIZE as u8 - i as u8;
+    let mut left = Record::BLOCK_SIZE as u8;
+    let mut met: u8 = 0;
+    let mut k = 0;
+    while k < Record::BLOCK_SIZE {
+        if pool[at + k] == c {
+            if left > behind {
+                met += 1;
+            }
+        }
+        left -= 1;
+        k += 1;
+    }
+    met as usize
 }
 
-// The place of the j-th c.
+// The place of the j-th c. Marks are passed by a stride while it isn't among the next, which are counted at once.
 pub fn find_mark(pool: &[u8], b: usize, c: u8, j: usize) -> usize
     requires { ⌜ LeafAt (now pool) b ⌝ }
     ensures { λ r. ⌜ r ≡ select c (leafMarks (now (pool .entry)) b) j ⌝ }
 {
     let at = Record::DIRECTORY_SIZE + Record::BLOCK_SIZE * b;
     let end = at + word(pool, at + Record::COUNT_AT);
-    find(&pool[at..end], c, j)
+    let mut start = at;
+    let mut left = j;
+    while start + STRIDE <= end {
+        let met = count_in(pool, start, start + STRIDE, c);
+        if met >= left {
+            break;
+        }
+        left -= met;
+        start += STRIDE;
+    }
+    start - at + find(&pool[start..end], c, left)
 }
 
 // Puts c in at place i.

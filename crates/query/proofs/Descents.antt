@@ -2,22 +2,18 @@
 -- Assumes nothing.
 use mathlib.Core.Path.{_≡_, refl, sym, ap, ap₂, _∙_}
 use mathlib.Core.List.{List}
-use Prim.Native.Nat.{ℕ, zero, suc, _+_, _-_, _*_, _≤_, _<_, min}
-use native.Mathlib.Nat.{sub-zero}
+use Prim.Native.Nat.{ℕ, _+_, _-_, _*_, _≤_, _<_, min}
 use native.Mathlib.Omega.{arith}
-use lib.ListN.{length, take, drop, length-append}
+use lib.ListN.{length, length-append}
 use Rattle.blocks.specs.Contents.{LeafAt}
 use Rattle.entries.specs.Summaries.{wordsAt}
 use Rattle.geometry.specs.Layout.{entryMarksAt, entryCountsAt, wordSize, leastBranch}
 use Rattle.geometry.specs.Limits.{mostAlphabet}
-use Rattle.pool.specs.Blocks.{entries, leafMarks, entryAt, link}
-use Rattle.pool.specs.Bytes.{byte}
+use Rattle.pool.specs.Blocks.{entries, leafMarks, link}
 use Rattle.pool.specs.Sound.{SoundBlock}
 use Rattle.pool.specs.Trees.{shapeAt}
-use Rattle.pool.specs.Words.{byteLimit, wordLimit}
 use Rattle.pool.proofs.Children.{told-all}
-use Rattle.pool.proofs.Words.{word-small}
-use Rattle.pool.proofs.Ways.{length-pathAt}
+use Rattle.pool.proofs.Sums.{sumBelow-one}
 use Rattle.sequence.specs.Alphabet.{sumBelow}
 use Rattle.sequence.specs.Definition1.{count, access, rank, select}
 use Rattle.sequence.proofs.Measures.{count-additive}
@@ -29,7 +25,6 @@ use Rattle.shape.specs.Paths.{path}
 use Rattle.query.specs.Answers.{FoundIn}
 use Rattle.query.specs.Good.{Good}
 use Rattle.entries.specs.Seats.{Seated}
-use Rattle.query.specs.declared.Found.{Found}
 use Rattle.entries.specs.declared.Seat.{Seat}
 use Rattle.query.proofs.Levels.{at-leaf, at-branch}
 use Rattle.query.proofs.Steps.{seated-range, told-marks, told-count, path-step, access-step, rank-step, select-step}
@@ -42,22 +37,15 @@ module _ (p : List ℕ) (level b : ℕ) (leaf : level ≡ 0) where
   pub leaf-place : (i : ℕ) → i ≤ marksIn level (shapeAt p level b) → i ≤ length (leafMarks p b)
   leaf-place i = at-leaf (λ l. i ≤ marksIn l (shapeAt p l b) → i ≤ length (leafMarks p b)) level leaf (λ place. place)
 
-  pub leaf-found : (i mark : ℕ) → mark ≡ access (leafMarks p b) i → FoundIn p level b i (record { mark = mark; blocks = 1 })
+  pub leaf-found : (i mark before : ℕ) → mark ≡ access (leafMarks p b) i → FoundIn p level b i mark before (before + 1)
   unfolding path
-  leaf-found i mark is = at-leaf (λ l. FoundIn p l b i (record { mark = mark; blocks = 1 })) level leaf (record { mark = is; blocks = refl })
+  leaf-found i mark before is = at-leaf (λ l. FoundIn p l b i mark before (before + 1)) level leaf (record { is = is; blocks = refl })
 
-  -- places 1 to i are the leaf's first i marks
-  pub leaf-ranked : (c i r : ℕ) → r ≡ count c (take (i - 0) (drop 0 (leafMarks p b))) → r ≡ rank c (flat level (shapeAt p level b)) i
-  unfolding rank
-  leaf-ranked c i r is =
-      at-leaf (λ l. r ≡ rank c (flat l (shapeAt p l b)) i) level leaf (is ∙ ap (λ (n : ℕ). count c (take n (leafMarks p b))) (sub-zero i))
+  pub leaf-ranked : (c i r : ℕ) → r ≡ rank c (leafMarks p b) i → r ≡ rank c (flat level (shapeAt p level b)) i
+  leaf-ranked c i r is = at-leaf (λ l. r ≡ rank c (flat l (shapeAt p l b)) i) level leaf is
 
   pub leaf-selected : (c j r : ℕ) → r ≡ select c (leafMarks p b) j → r ≡ select c (flat level (shapeAt p level b)) j
   leaf-selected c j r is = at-leaf (λ l. r ≡ select c (flat l (shapeAt p l b)) j) level leaf is
-
--- so many blocks fit a byte's worth of levels
-pub found-few : (p : List ℕ) (h b i : ℕ) (r : Found) → FoundIn p h b i r → r .blocks ≡ suc h
-found-few p h b i r found = found .blocks ∙ length-pathAt p h i b
 
 -- a rank is no more than its place, and a place no more than the marks
 pub ranked-most : (c : ℕ) (xs : List ℕ) (i : ℕ) {r : ℕ} → r ≡ rank c xs i → r ≤ i
@@ -77,6 +65,21 @@ module _ (p : List ℕ) (level b : ℕ) (branch : level ≡ 0 → ⊥) where
     pub child-good : (m : ℕ → ℕ) (i : ℕ) → Seated m (entries p b) i r → Good p level b → Good p (level - 1) child
     child-good m i seated = at-branch (λ l d. Good p l b → Good p d child) level branch (λ h good. rw linked (good .1 (r .k) (seated .inside) .0))
 
+    -- it has no more marks than the branch
+    pub child-few : (m : ℕ → ℕ) (i most : ℕ) → Seated m (entries p b) i r → Good p level b → marksIn level (shapeAt p level b) < most
+        → marksIn (level - 1) (shapeAt p (level - 1) child) < most
+    child-few m i most seated =
+        at-branch (λ l d. Good p l b → marksIn l (shapeAt p l b) < most → marksIn d (shapeAt p d child) < most) level branch
+        (λ h good few.
+        let words : ℕ → ℕ = wordsAt p b entryMarksAt in
+        rw linked (omega (
+          arith,
+          few,
+          told-all p h b length length-append words (told-marks p h b good),
+          told-marks p h b good (r .k) (seated .inside),
+          sumBelow-one (entries p b) words (r .k) (seated .inside),
+        )))
+
     -- what is left of a place, or of a number of c
     pub place-left : (i : ℕ) → Seated (wordsAt p b entryMarksAt) (entries p b) i r → Good p level b → i ≤ marksIn level (shapeAt p level b)
         → Within (min i 1) (marksIn (level - 1) (shapeAt p (level - 1) child)) (i - r .before)
@@ -92,17 +95,18 @@ module _ (p : List ℕ) (level b : ℕ) (branch : level ≡ 0 → ⊥) where
         (λ h good within. rw linked (seated-range p h b (count c) (count-additive c) (wordsAt p b (entryCountsAt + wordSize * c)) (told-count p h b good c low) j r seated within))
 
     -- the answers
-    pub found-below : (i : ℕ) (found : Found) → Seated (wordsAt p b entryMarksAt) (entries p b) i r → 1 ≤ i → Good p level b → i ≤ marksIn level (shapeAt p level b)
-        → FoundIn p (level - 1) child (i - r .before) found
-        → FoundIn p level b i (record { mark = found .mark; blocks = found .blocks + 1 })
-    found-below i found seated one =
+    pub found-below : (i mark before entered : ℕ) → Seated (wordsAt p b entryMarksAt) (entries p b) i r → 1 ≤ i → Good p level b
+        → i ≤ marksIn level (shapeAt p level b)
+        → FoundIn p (level - 1) child (i - r .before) mark (before + 1) entered
+        → FoundIn p level b i mark before entered
+    found-below i mark before entered seated one =
         at-branch
-        (λ l d. Good p l b → i ≤ marksIn l (shapeAt p l b) → FoundIn p d child (i - r .before) found
-        → FoundIn p l b i (record { mark = found .mark; blocks = found .blocks + 1 })) level branch
+        (λ l d. Good p l b → i ≤ marksIn l (shapeAt p l b) → FoundIn p d child (i - r .before) mark (before + 1) entered
+        → FoundIn p l b i mark before entered) level branch
         (λ h good place below.
-        let there : FoundIn p h (link p b (r .k)) (i - r .before) found = rw linked at below in
+        let there : FoundIn p h (link p b (r .k)) (i - r .before) mark (before + 1) entered = rw linked at below in
         record {
-          mark = there .mark ∙ sym (access-step p h b good i r seated place one);
+          is = there .is ∙ sym (access-step p h b good i r seated place one);
           blocks = omega (arith, there .blocks, ap length (path-step p h b good i r seated));
         })
 
@@ -127,21 +131,3 @@ module _ (p : List ℕ) (level b : ℕ) (branch : level ≡ 0 → ⊥) where
         (λ l d. Good p l b → j ≤ count c (flat l (shapeAt p l b)) → below ≡ select c (flat d (shapeAt p d child)) (j - r .before)
         → passed + below ≡ select c (flat l (shapeAt p l b)) j) level branch
         (λ h good within is. ap₂ (λ (x y : ℕ). x + y) before (rw linked at is) ∙ sym (select-step p h b good c low j r seated one within))
-
-  -- a branch's marks are few, since its entries tell them by words of bytes
-  words-few : (m : ℕ → ℕ) (n : ℕ) → ((k : ℕ) → m k < wordLimit) → sumBelow n m ≤ n * wordLimit
-  unfolding sumBelow
-  words-few m zero small = omega arith
-  words-few m (suc n) small = omega (arith, words-few m n small, small n)
-
-  pub branch-few : ((at : ℕ) → byte p at < byteLimit) → Good p level b → marksIn level (shapeAt p level b) < 4 * wordLimit
-  branch-few bytes =
-      at-branch (λ l d. Good p l b → marksIn l (shapeAt p l b) < 4 * wordLimit) level branch
-      (λ h good.
-      let m : ℕ → ℕ = wordsAt p b entryMarksAt in
-      omega (
-        arith,
-        told-all p h b length length-append m (told-marks p h b good),
-        words-few m (entries p b) (λ k. word-small p (entryAt b k + entryMarksAt) (bytes (entryAt b k + entryMarksAt)) (bytes (entryAt b k + entryMarksAt + 1))),
-        good .0 .fits,
-      ))

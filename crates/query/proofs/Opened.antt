@@ -3,9 +3,10 @@
 use mathlib.Core.Path.{_≡_, ap, _∙_}
 use mathlib.Core.List.{List}
 use Prim.Native.Nat.{ℕ}
+use native.Mathlib.Omega.{arith}
 use lib.ListN.{length}
 use Rattle.geometry.specs.declared.Record.{Record}
-use Rattle.pool.specs.Names.{recordOf, treeOf}
+use Rattle.pool.specs.Names.{recordOf, treeOf, pathOf}
 use Rattle.pool.specs.Sound.{OpenName}
 use Rattle.pool.specs.Trees.{shapeAt}
 use Rattle.pool.proofs.SoundNames.{open-depth, open-depth-rule}
@@ -14,7 +15,6 @@ use Rattle.shape.specs.Nested.{flat}
 use Rattle.shape.specs.Trees.{marksT}
 use Rattle.query.specs.Answers.{FoundIn, FoundOf}
 use Rattle.query.specs.Good.{Good}
-use Rattle.query.specs.declared.Found.{Found}
 use Rattle.query.proofs.Trees.{open-good}
 
 module _ (p : List ℕ) (name : ℕ) (opened : OpenName p name) (r : Record) (is : r ≡ recordOf p name) where
@@ -36,12 +36,13 @@ module _ (p : List ℕ) (name : ℕ) (opened : OpenName p name) (r : Record) (is
   record-selected c j n answer = answer ∙ ap (λ (xs : List ℕ). select c xs j) record-marks
 
   -- and so is the mark; the depth is that of the name's tree, and keeps to document 01's rule
-  pub record-found : (i : ℕ) (found : Found) → FoundIn p (r .height) (r .root) i found → FoundOf p name i found
-  record-found i found answer =
-      let here : FoundIn p (recordOf p name .height) (recordOf p name .root) i found = rw is at answer in
+  pub record-found : (i mark blocks : ℕ) → FoundIn p (r .height) (r .root) i mark 0 blocks → FoundOf p name i (record { mark = mark; blocks = blocks })
+  record-found i mark blocks answer =
+      let here : FoundIn p (recordOf p name .height) (recordOf p name .root) i mark 0 blocks = rw is at answer in
+      let path : blocks ≡ length (pathOf p name i) = omega (arith, here .blocks) in
       record {
-        mark = here .mark;
-        path = here .blocks;
-        depth = here .blocks ∙ open-depth p name opened i;
-        rule = rw (here .blocks, ← opened .length) (open-depth-rule p name opened i);
+        mark = here .is;
+        path = path;
+        depth = path ∙ open-depth p name opened i;
+        rule = rw (path, ← opened .length) (open-depth-rule p name opened i);
       }

@@ -2,7 +2,7 @@
 -- Assumes nothing.
 use mathlib.Core.Path.{_≡_}
 use mathlib.Core.List.{List}
-use Prim.Native.Nat.{ℕ}
+use Prim.Native.Nat.{ℕ, _+_}
 use lib.ListN.{length}
 use Rattle.pool.specs.Names.{treeOf, pathOf}
 use Rattle.pool.specs.Trees.{shapeAt, pathAt}
@@ -13,10 +13,10 @@ use Rattle.shape.specs.Paths.{depthT}
 use Rattle.shape.specs.Trees.{marksT}
 use Rattle.query.specs.declared.Found.{Found}
 
--- the mark at place i below a block of level h, and how many blocks the way down to it enters
-pub record FoundIn (p : List ℕ) (h b i : ℕ) (r : Found) : Type 0 where
-  pub mark : r .mark ≡ access (flat h (shapeAt p h b)) i
-  pub blocks : r .blocks ≡ length (pathAt p h i b)
+-- the mark at place i below a block of level h; so many blocks were entered before, and with the way down to it so many
+pub record FoundIn (p : List ℕ) (h b i mark before entered : ℕ) : Type 0 where
+  pub is : mark ≡ access (flat h (shapeAt p h b)) i
+  pub blocks : entered ≡ before + length (pathAt p h i b)
 
 -- the mark at place i of a name, and its depth
 pub record FoundOf (p : List ℕ) (name i : ℕ) (r : Found) : Type 0 where

@@ -30,7 +30,9 @@ pub fn access(pool: &[u8], name: usize, i: usize) -> Found
     ensures { λ r. ⌜ FoundOf (now (pool .entry)) name i r ⌝ }
 {
     let record = read_record(pool, name);
-    access_in(pool, record.height, record.root as usize, i)
+    let mut blocks = 0;
+    let mark = access_in(&pool, record.height, record.root as usize, i, &mut blocks);
+    Found { mark, blocks }
 }
 
 // How many of the places 1 to i bear c.
@@ -40,7 +42,7 @@ pub fn rank(pool: &[u8], name: usize, c: u8, i: usize) -> usize
     ensures { λ r. ⌜ r ≡ rankOf c (marksT (treeOf (now (pool .entry)) name)) i ⌝ }
 {
     let record = read_record(pool, name);
-    rank_in(pool, record.height, record.root as usize, c, i)
+    rank_in(&pool, record.height, record.root as usize, c, i)
 }
 
 // The place of the j-th c.
@@ -50,7 +52,7 @@ pub fn select(pool: &[u8], name: usize, c: u8, j: usize) -> usize
     ensures { λ r. ⌜ r ≡ selectOf c (marksT (treeOf (now (pool .entry)) name)) j ⌝ }
 {
     let record = read_record(pool, name);
-    select_in(pool, record.height, record.root as usize, c, j)
+    select_in(&pool, record.height, record.root as usize, c, j)
 }
 
 // How many marks the name has.
@@ -71,7 +73,7 @@ pub fn count(pool: &[u8], name: usize, c: u8) -> usize
     let record = read_record(pool, name);
     if record.height == 0 {
         return rank_in(
-            pool,
+            &pool,
             record.height,
             record.root as usize,
             c,

@@ -1,13 +1,14 @@
 // Access, rank and select below a block: each calls itself on the child that takes the place, and the levels left fall at each call.
+// The pool comes as a reference to the lent slice, which every call hands on as it is, so that the compiler makes a loop of the calls.
 ghost use mathlib.Core.Path.{_≡_};
-ghost use Prim.Native.Nat.{_≤_, _<_};
+ghost use Prim.Native.Nat.{_+_, _≤_, _<_};
 ghost use Rattle.geometry.specs.Limits.{mostAlphabet};
 ghost use Rattle.pool.specs.Trees.{shapeAt};
+ghost use Rattle.pool.specs.Words.{wordLimit};
 ghost use Rattle.sequence.specs.Definition1.{count, rank, select};
 ghost use Rattle.shape.specs.Nested.{flat, marksIn};
 ghost use Rattle.query.specs.Answers.{FoundIn};
 ghost use Rattle.query.specs.Good.{Good};
-use crate::Found;
 use blocks::leaf::count_marks;
 use blocks::leaf::find_mark;
 use blocks::leaf::mark_at;
@@ -16,55 +17,50 @@ use entries::seat_by;
 use entries::words_before;
 use geometry::Record;
 
-// The mark at place i below block b of a level.
-pub fn access_in(pool: &[u8], level: u8, b: usize, i: usize) -> Found
-    requires tree { ⌜ Good (now pool) level b ⌝ }
-    requires place { ⌜ (1 ≤ i) × (i ≤ marksIn level (shapeAt (now pool) level b)) ⌝ }
-    ensures { λ r. ⌜ FoundIn (now (pool .entry)) level b i r ⌝ }
+// The mark at place i below block b of a level; the blocks entered on the way are counted.
+pub fn access_in(pool: &&[u8], level: u8, b: usize, i: usize, entered: &mut usize) -> u8
+    requires tree { ⌜ Good (now (now pool)) level b ⌝ }
+    requires place { ⌜ (1 ≤ i) × (i ≤ marksIn level (shapeAt (now (now pool)) level b)) × (now entered + level < wordLimit) ⌝ }
+    ensures { λ r. ⌜ FoundIn (now (now (pool .entry))) level b i r (now (entered .entry)) (now (entered .exit)) ⌝ }
 {
+    *entered += 1;
     if level == 0 {
-        return Found {
-            mark: mark_at(pool, b, i),
-            blocks: 1,
-        };
+        return mark_at(*pool, b, i);
     }
-    let seat = seat_by(pool, b, Record::ENTRY_MARKS_AT, i);
-    let child = link(pool, b, seat.k);
-    let found = access_in(pool, level - 1, child, i - seat.before);
-    Found {
-        mark: found.mark,
-        blocks: found.blocks + 1,
-    }
+    let seat = seat_by(*pool, b, Record::ENTRY_MARKS_AT, i);
+    let child = link(*pool, b, seat.k);
+    access_in(pool, level - 1, child, i - seat.before, entered)
 }
 
 // How many of the places 1 to i below block b bear c.
-pub fn rank_in(pool: &[u8], level: u8, b: usize, c: u8, i: usize) -> usize
-    requires tree { ⌜ Good (now pool) level b × (c < mostAlphabet) ⌝ }
-    requires place { ⌜ i ≤ marksIn level (shapeAt (now pool) level b) ⌝ }
-    ensures { λ r. ⌜ r ≡ rank c (flat level (shapeAt (now (pool .entry)) level b)) i ⌝ }
+pub fn rank_in(pool: &&[u8], level: u8, b: usize, c: u8, i: usize) -> usize
+    requires tree { ⌜ Good (now (now pool)) level b × (c < mostAlphabet) ⌝ }
+    requires place { ⌜ i ≤ marksIn level (shapeAt (now (now pool)) level b) ⌝ }
+    ensures { λ r. ⌜ r ≡ rank c (flat level (shapeAt (now (now (pool .entry))) level b)) i ⌝ }
 {
     if level == 0 {
-        return count_marks(pool, b, 0, i, c);
+        return count_marks(*pool, b, c, i);
     }
-    let seat = seat_by(pool, b, Record::ENTRY_MARKS_AT, i);
+    let seat = seat_by(*pool, b, Record::ENTRY_MARKS_AT, i);
     let offset = Record::ENTRY_COUNTS_AT + Record::WORD_SIZE * (c as usize);
-    let passed = words_before(pool, b, offset, seat.k);
-    let child = link(pool, b, seat.k);
+    let passed = words_before(*pool, b, offset, seat.k);
+    let child = link(*pool, b, seat.k);
     passed + rank_in(pool, level - 1, child, c, i - seat.before)
 }
 
 // The place of the j-th c below block b.
-pub fn select_in(pool: &[u8], level: u8, b: usize, c: u8, j: usize) -> usize
-    requires tree { ⌜ Good (now pool) level b × (c < mostAlphabet) ⌝ }
-    requires number { ⌜ (1 ≤ j) × (j ≤ count c (flat level (shapeAt (now pool) level b))) ⌝ }
-    ensures { λ r. ⌜ r ≡ select c (flat level (shapeAt (now (pool .entry)) level b)) j ⌝ }
+pub fn select_in(pool: &&[u8], level: u8, b: usize, c: u8, j: usize) -> usize
+    requires tree { ⌜ Good (now (now pool)) level b × (c < mostAlphabet) ⌝ }
+    requires number { ⌜ (1 ≤ j) × (j ≤ count c (flat level (shapeAt (now (now pool)) level b)))
+        × (marksIn level (shapeAt (now (now pool)) level b) < wordLimit) ⌝ }
+    ensures { λ r. ⌜ r ≡ select c (flat level (shapeAt (now (now (pool .entry))) level b)) j ⌝ }
 {
     if level == 0 {
-        return find_mark(pool, b, c, j);
+        return find_mark(*pool, b, c, j);
     }
     let offset = Record::ENTRY_COUNTS_AT + Record::WORD_SIZE * (c as usize);
-    let seat = seat_by(pool, b, offset, j);
-    let passed = words_before(pool, b, Record::ENTRY_MARKS_AT, seat.k);
-    let child = link(pool, b, seat.k);
+    let seat = seat_by(*pool, b, offset, j);
+    let passed = words_before(*pool, b, Record::ENTRY_MARKS_AT, seat.k);
+    let child = link(*pool, b, seat.k);
     passed + select_in(pool, level - 1, child, c, j - seat.before)
 }

@@ -105,12 +105,6 @@ module _ (p : List ℕ) (name : ℕ) where
 -- the same as the code has it: the record in a local
 module _ (p : List ℕ) (name tag fewest : ℕ) (found : Record) (is : found ≡ recordOf p name) (few : fewest ≡ rootLeast (found .height))
     (map after : List ℕ) (r : Bool) (walked : Walked r (WalkedTree p (found .alphabet) fewest (found .height) (found .root)) tag (blocksAt p (found .height) (found .root)) map after) where
-  pub root-inside : r ≡ true → found .root < shares p
-  root-inside passed = walk-found tag passed walked .0 .inside
-
-  pub root-size : r ≡ true → entries p (found .root) ≤ most oneToAByte (found .height)
-  root-size passed = walk-found tag passed walked .0 .fits
-
   there : Walked r (Root p name) tag (rootBlocks p name) map after
   there = rw (few, is) at walked
 

@@ -152,15 +152,6 @@ module _ (p : List ℕ) (alphabet tag : ℕ) where
 
   -- the same as the code has it: the child's block and the least entries in locals, and so many children left, not 0
   module _ (h b k child fewest : ℕ) (map after : List ℕ) (r : Bool) (walked : Walked r (WalkedTree p alphabet fewest h child) tag (blocksAt p h child) map after) where
-    pub child-inside : r ≡ true → child < shares p
-    child-inside passed = walk-found tag passed walked .0 .inside
-
-    pub child-fits : r ≡ true → entries p child ≤ most oneToAByte h
-    child-fits passed = walk-found tag passed walked .0 .fits
-
-    pub child-enough : fewest ≡ least oneToAByte h → r ≡ true → least oneToAByte h ≤ entries p child
-    child-enough few passed = omega (arith, walk-found tag passed walked .0 .enough)
-
     module _ (linked : Is (link p b k) child) (few : fewest ≡ least oneToAByte h) where
       there : Walked r (Tree h b k) tag (blocksAt p h (link p b k)) map after
       there = rw (linked .is, few) at walked

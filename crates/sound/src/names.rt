@@ -69,7 +69,7 @@ fn check_open(pool: &[u8], name: usize, found: Record, map: &mut [u8; Record::MO
     let root = found.root as usize;
     let fewest = least_of_root(height);
     let holder = name as u8 + 1;
-    if !check_block(pool, height, root, fewest, found.alphabet, map, holder) {
+    if !check_block(&pool, height, root, fewest, found.alphabet, map, holder) {
         return false;
     }
     if !root_fits(pool, height, root, found.alphabet) {

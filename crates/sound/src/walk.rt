@@ -1,4 +1,5 @@
-// The walk over a tree: checking a block and checking a branch's children call each other.
+// The walk over a tree: checking a block and checking a branch's children call each other. The pool comes as a reference to the lent slice,
+// which every call hands on as it is: a slice itself would be copied to the stack at each.
 ghost use Prim.Native.Nat.{_+_, _≤_, _<_};
 ghost use lib.ListN.{length};
 ghost use Rattle.geometry.specs.Layout.{mostBranch};
@@ -19,7 +20,7 @@ use geometry::Record;
 // Whether the tree at a block is sound and none of its blocks was met before. They are then marked as the holder's.
 // The marks of a block that is a leaf itself are left to the caller, who may have a parent's entry to go by.
 pub fn check_block(
-    pool: &[u8],
+    pool: &&[u8],
     level: usize,
     b: usize,
     fewest: usize,
@@ -27,13 +28,13 @@ pub fn check_block(
     map: &mut [u8; Record::MOST_SHARES],
     holder: u8,
 ) -> bool
-    requires { ⌜ (directorySize ≤ length (now pool)) × (length (now pool) ≤ longestPool) × (alphabet ≤ mostAlphabet) ⌝ }
-    ensures { λ r. ⌜ Walked r (WalkedTree (now (pool .entry)) alphabet fewest level b) holder (blocksAt (now (pool .entry)) level b) (now (map .entry)) (now (map .exit)) ⌝ }
+    requires { ⌜ (directorySize ≤ length (now (now pool))) × (length (now (now pool)) ≤ longestPool) × (alphabet ≤ mostAlphabet) ⌝ }
+    ensures { λ r. ⌜ Walked r (WalkedTree (now (now (pool .entry))) alphabet fewest level b) holder (blocksAt (now (now (pool .entry))) level b) (now (map .entry)) (now (map .exit)) ⌝ }
 {
-    if !enter(pool, level, b, fewest, map, holder) {
+    if !enter(*pool, level, b, fewest, map, holder) {
         return false;
     }
-    let many = entry_count(pool, b);
+    let many = entry_count(*pool, b);
     if level == 0 {
         return true;
     }
@@ -42,7 +43,7 @@ pub fn check_block(
 
 // The same for a branch's children of a level, from child k on, so many as are left; each entry must repeat its child's summary.
 fn check_children(
-    pool: &[u8],
+    pool: &&[u8],
     level: usize,
     b: usize,
     k: usize,
@@ -51,14 +52,14 @@ fn check_children(
     map: &mut [u8; Record::MOST_SHARES],
     holder: u8,
 ) -> bool
-    requires size { ⌜ (directorySize ≤ length (now pool)) × (length (now pool) ≤ longestPool) × (alphabet ≤ mostAlphabet) ⌝ }
-    requires branch { ⌜ (b < shares (now pool)) × (k + left ≤ mostBranch) ⌝ }
-    ensures { λ r. ⌜ Walked r (SoundChildren (now (pool .entry)) alphabet level b k left) holder (joined (blocksAt (now (pool .entry)) level) (from (linkOf (now (pool .entry)) b) k left)) (now (map .entry)) (now (map .exit)) ⌝ }
+    requires size { ⌜ (directorySize ≤ length (now (now pool))) × (length (now (now pool)) ≤ longestPool) × (alphabet ≤ mostAlphabet) ⌝ }
+    requires branch { ⌜ (b < shares (now (now pool))) × (k + left ≤ mostBranch) ⌝ }
+    ensures { λ r. ⌜ Walked r (SoundChildren (now (now (pool .entry))) alphabet level b k left) holder (joined (blocksAt (now (now (pool .entry))) level) (from (linkOf (now (now (pool .entry))) b) k left)) (now (map .entry)) (now (map .exit)) ⌝ }
 {
     if left == 0 {
         return true;
     }
-    let child = link(pool, b, k);
+    let child = link(*pool, b, k);
     if !check_block(
         pool,
         level,
@@ -70,7 +71,7 @@ fn check_children(
     ) {
         return false;
     }
-    if !repeats(pool, level, b, k, child, alphabet) {
+    if !repeats(*pool, level, b, k, child, alphabet) {
         return false;
     }
     check_children(pool, level, b, k + 1, left - 1, alphabet, map, holder)

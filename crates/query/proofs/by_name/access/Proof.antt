@@ -16,15 +16,15 @@ cast-access-in c = search needs
 
 access-in-requires : tie.Need-access-in-requires
 access-in-requires c κs =
-    let start = c .before .before .before in
-    let read = c .before .read-record in
-    (record-good (start .args .pool .now) (start .args .name) (start .pre .0 .1) (read .result) (read .ensures), (start .pre .1 .0, omega (arith, start .pre .1 .1, ap length (record-marks (start .args .pool .now) (start .args .name) (start .pre .0 .1) (read .result) (read .ensures)))))
+    let start = c .before .before .before .before .before in
+    let read = c .before .before .before .read-record in
+    (record-good (start .args .t1 .now) (start .args .name) (start .pre .0 .1) (read .result) (read .ensures), (start .pre .1 .0, omega (arith, start .pre .1 .1, ap length (record-marks (start .args .t1 .now) (start .args .name) (start .pre .0 .1) (read .result) (read .ensures))), omega (arith, c .before .struct-known .given .1 .1 .0)))
 
 returns : tie.Need-returns
 returns c =
-    let start = c .before .before .before .before in
-    let read = c .before .before .read-record in
-    record-found (start .args .pool .now) (start .args .name) (start .pre .0 .1) (read .result) (read .ensures) (start .args .i) (c .access-in .result) (c .access-in .ensures)
+    let start = c .before .before .before .before .before .before in
+    let read = c .before .before .before .before .read-record in
+    record-found (start .args .t1 .now) (start .args .name) (start .pre .0 .1) (read .result) (read .ensures) (start .args .i) (c .access-in .result) _ (c .access-in .ensures)
 
 pub access-spec : {M : Type 1} → statement M
 access-spec = tie.close (tie.spec read-record-requires cast-access-in access-in-requires returns)

@@ -16,9 +16,9 @@ cast-rank-in-2 c = search needs
 
 rank-in-requires : tie.Need-rank-in-requires
 rank-in-requires c κs =
-    let start = c .before .before .before .before .before .before in
-    let read = c .before .before .before .before .read-record in
-    leaf-ready (start .args .pool .now) (start .args .name) (start .pre .0 .1) (read .result) (read .ensures) (start .args .c) (start .pre .1)
+    let start = c .before .before .before .before .before .before .before in
+    let read = c .before .before .before .before .before .read-record in
+    leaf-ready (start .args .t1 .now) (start .args .name) (start .pre .0 .1) (read .result) (read .ensures) (start .args .c) (start .pre .1)
 
 returns : tie.Need-returns
 returns c = search leaf-counted
@@ -30,7 +30,7 @@ count-in-branch-requires : tie.Need-count-in-branch-requires
 count-in-branch-requires c κs =
     let start = c .before .before .before .before .before in
     let read = c .before .before .before .read-record in
-    branch-ready (start .args .pool .now) (start .args .name) (start .pre .0 .1) (read .result) (read .ensures) (start .args .c) (start .pre .1) (search needs) (search needs)
+    branch-ready (start .args .t1 .now) (start .args .name) (start .pre .0 .1) (read .result) (read .ensures) (start .args .c) (start .pre .1) (search needs) (search needs)
 
 returns-2 : tie.Need-returns-2
 returns-2 c = search branch-counted

@@ -16,15 +16,15 @@ cast-rank-in c = search needs
 
 rank-in-requires : tie.Need-rank-in-requires
 rank-in-requires c κs =
-    let start = c .before .before .before in
-    let read = c .before .read-record in
-    ((record-good (start .args .pool .now) (start .args .name) (start .pre .0 .1) (read .result) (read .ensures), start .pre .1 .0), omega (arith, start .pre .1 .1, ap length (record-marks (start .args .pool .now) (start .args .name) (start .pre .0 .1) (read .result) (read .ensures))))
+    let start = c .before .before .before .before in
+    let read = c .before .before .read-record in
+    ((record-good (start .args .t1 .now) (start .args .name) (start .pre .0 .1) (read .result) (read .ensures), start .pre .1 .0), omega (arith, start .pre .1 .1, ap length (record-marks (start .args .t1 .now) (start .args .name) (start .pre .0 .1) (read .result) (read .ensures))))
 
 returns : tie.Need-returns
 returns c =
-    let start = c .before .before .before .before in
-    let read = c .before .before .read-record in
-    record-ranked (start .args .pool .now) (start .args .name) (start .pre .0 .1) (read .result) (read .ensures) (start .args .c) (start .args .i) (c .rank-in .result) (c .rank-in .ensures)
+    let start = c .before .before .before .before .before in
+    let read = c .before .before .before .read-record in
+    record-ranked (start .args .t1 .now) (start .args .name) (start .pre .0 .1) (read .result) (read .ensures) (start .args .c) (start .args .i) (c .rank-in .result) (c .rank-in .ensures)
 
 pub rank-spec : {M : Type 1} → statement M
 rank-spec = tie.close (tie.spec read-record-requires cast-rank-in rank-in-requires returns)

@@ -6,7 +6,7 @@ use native.Mathlib.Nat.{pos-of-ne-zero}
 use native.Mathlib.Omega.{arith}
 use borrow.Fn.Kinds.{In}
 use borrow.Fn.PlainCycle.{Measures, is, falls, and}
-use Rattle.query.proofs.Descents.{leaf-at, leaf-selected, branch-at, branch-few, child-good, number-left, selected-below, selected-most}
+use Rattle.query.proofs.Descents.{leaf-at, leaf-selected, branch-at, child-few, child-good, number-left, selected-below, selected-most}
 use Rattle.entries.proofs.Seats.{seated-before}
 use Rattle.blocks.proofs.leaf.find_mark.Reads as find-mark-reads
 use Rattle.entries.proofs.seat_by.Reads as seat-by-reads
@@ -19,15 +19,15 @@ use Rattle.query.proofs.descent.+select_in.{statement}
 use Rattle.query.proofs.descent.+select_in.Tie.{close}
 
 -- the levels left
-abbrev μ-select-in : Measures 1 select-in-kinds.ps ℕ
+abbrev μ-select-in : Measures 2 select-in-kinds.ps ℕ
 μ-select-in κs a = a .1 .0
 
 -- what `select_in` is given at the measure t, and what a call of it asks below t
-abbrev select-in-at : ℕ → In 1 select-in-kinds.ps
-select-in-at t = and 1 select-in-kinds.ps (is 1 select-in-kinds.ps μ-select-in t) select-in.Pre
+abbrev select-in-at : ℕ → In 2 select-in-kinds.ps
+select-in-at t = and 2 select-in-kinds.ps (is 2 select-in-kinds.ps μ-select-in t) select-in.Pre
 
-abbrev select-in-below : ℕ → In 1 select-in-kinds.ps
-select-in-below t = and 1 select-in-kinds.ps (falls 1 select-in-kinds.ps _<_ μ-select-in t) select-in.Pre
+abbrev select-in-below : ℕ → In 2 select-in-kinds.ps
+select-in-below t = and 2 select-in-kinds.ps (falls 2 select-in-kinds.ps _<_ μ-select-in t) select-in.Pre
 
 -- the callees' contracts, in the order of the calls
 abbrev told : ℕ → select-in-lts.Claims
@@ -47,12 +47,12 @@ told t = (
 select-in-find-mark-requires : (t : ℕ) → select-in-lts.Need-find-mark-requires (told t) (select-in-at t) select-in.Post
 select-in-find-mark-requires t c κs =
     let start = c .before .before in
-    leaf-at (start .args .pool .now) (start .args .level) (start .args .b) (c .if1 .taken) (start .pre .1 .0 .0)
+    leaf-at (start .args .pool .now .now) (start .args .level) (start .args .b) (c .before .if1 .taken) (start .pre .1 .0 .0)
 
 select-in-returns : (t : ℕ) → select-in-lts.Need-returns (told t) (select-in-at t) select-in.Post
 select-in-returns t c =
     let start = c .before .before .before in
-    leaf-selected (start .args .pool .now) (start .args .level) (start .args .b) (c .before .if1 .taken) (start .args .c) (start .args .j) (c .find-mark .result) (c .find-mark .ensures)
+    leaf-selected (start .args .pool .now .now) (start .args .level) (start .args .b) (c .before .before .if1 .taken) (start .args .c) (start .args .j) (c .find-mark .result) (c .find-mark .ensures)
 
 select-in-mul-offset : (t : ℕ) → select-in-lts.Need-mul-offset (told t) (select-in-at t) select-in.Post
 select-in-mul-offset t c = omega arith
@@ -63,54 +63,54 @@ select-in-add-offset t c = omega arith
 select-in-seat-by-requires : (t : ℕ) → select-in-lts.Need-seat-by-requires (told t) (select-in-at t) select-in.Post
 select-in-seat-by-requires t c κs =
     let start = c .before .before in
-    let block = branch-at (start .args .pool .now) (start .args .level) (start .args .b) (c .if1 .left) (start .pre .1 .0 .0) in
+    let block = branch-at (start .args .pool .now .now) (start .args .level) (start .args .b) (c .before .if1 .left) (start .pre .1 .0 .0) in
     ((block .inside, omega (arith, start .pre .1 .0 .1)), (block .enough, block .fits))
 
 select-in-words-before-requires : (t : ℕ) → select-in-lts.Need-words-before-requires (told t) (select-in-at t) select-in.Post
 select-in-words-before-requires t c κs =
-    let start = c .before .before .before in
-    let block = branch-at (start .args .pool .now) (start .args .level) (start .args .b) (c .before .if1 .left) (start .pre .1 .0 .0) in
-    (block .inside, omega (arith, c .seat-by .ensures .inside, block .fits), omega arith)
+    let start = c .before .before .before .before in
+    let block = branch-at (start .args .pool .now .now) (start .args .level) (start .args .b) (c .before .before .before .if1 .left) (start .pre .1 .0 .0) in
+    (block .inside, omega (arith, c .before .seat-by .ensures .inside, block .fits), omega arith)
 
 select-in-link-requires : (t : ℕ) → select-in-lts.Need-link-requires (told t) (select-in-at t) select-in.Post
 select-in-link-requires t c κs =
-    let start = c .before .before .before .before in
-    let block = branch-at (start .args .pool .now) (start .args .level) (start .args .b) (c .before .before .if1 .left) (start .pre .1 .0 .0) in
-    (block .inside, omega (arith, c .before .seat-by .ensures .inside, block .fits))
+    let start = c .before .before .before .before .before .before in
+    let block = branch-at (start .args .pool .now .now) (start .args .level) (start .args .b) (c .before .before .before .before .before .if1 .left) (start .pre .1 .0 .0) in
+    (block .inside, omega (arith, c .before .before .before .seat-by .ensures .inside, block .fits))
 
 select-in-sub-select-in : (t : ℕ) → select-in-lts.Need-sub-select-in (told t) (select-in-at t) select-in.Post
-select-in-sub-select-in t c = pos-of-ne-zero (c .before .before .before .if1 .left)
+select-in-sub-select-in t c = pos-of-ne-zero (c .before .before .before .before .before .before .if1 .left)
 
 select-in-sub-select-in-2 : (t : ℕ) → select-in-lts.Need-sub-select-in-2 (told t) (select-in-at t) select-in.Post
-select-in-sub-select-in-2 t c = seated-before _ _ _ (c .before .before .before .seat-by .result) (c .before .before .before .seat-by .ensures)
+select-in-sub-select-in-2 t c = seated-before _ _ _ (c .before .before .before .before .before .seat-by .result) (c .before .before .before .before .before .seat-by .ensures)
 
 select-in-select-in-requires : (t : ℕ) → select-in-lts.Need-select-in-requires (told t) (select-in-at t) select-in.Post
 select-in-select-in-requires t c κs =
-    let start = c .before .before .before .before .before .before in
-    let branch = c .before .before .before .before .if1 .left in
-    let seat = c .before .before .before .seat-by in
+    let start = c .before .before .before .before .before .before .before .before in
+    let branch = c .before .before .before .before .before .before .before .if1 .left in
+    let seat = c .before .before .before .before .before .seat-by in
     let link = c .before .link in
-    let left = number-left (start .args .pool .now) (start .args .level) (start .args .b) branch (seat .result) (link .result) (link .ensures .is) (start .args .c) (start .args .j) (start .pre .1 .0 .1) (seat .ensures) (start .pre .1 .0 .0) (start .pre .1 .1 .1) in
-    let good = child-good (start .args .pool .now) (start .args .level) (start .args .b) branch (seat .result) (link .result) (link .ensures .is) _ (start .args .j) (seat .ensures) (start .pre .1 .0 .0) in
-    (omega (arith, start .pre .0, pos-of-ne-zero branch), ((good, start .pre .1 .0 .1), (omega (arith, left .enough, start .pre .1 .1 .0), left .fits)))
+    let left = number-left (start .args .pool .now .now) (start .args .level) (start .args .b) branch (seat .result) (link .result) (link .ensures .is) (start .args .c) (start .args .j) (start .pre .1 .0 .1) (seat .ensures) (start .pre .1 .0 .0) (start .pre .1 .1 .1) in
+    let good = child-good (start .args .pool .now .now) (start .args .level) (start .args .b) branch (seat .result) (link .result) (link .ensures .is) _ (start .args .j) (seat .ensures) (start .pre .1 .0 .0) in
+    let few = child-few (start .args .pool .now .now) (start .args .level) (start .args .b) branch (seat .result) (link .result) (link .ensures .is) _ (start .args .j) _ (seat .ensures) (start .pre .1 .0 .0) (start .pre .1 .1 .2) in
+    (omega (arith, start .pre .0, pos-of-ne-zero branch), ((good, start .pre .1 .0 .1), (omega (arith, left .enough, start .pre .1 .1 .0), left .fits, few)))
 
 select-in-add-result : (t : ℕ) → select-in-lts.Need-add-result (told t) (select-in-at t) select-in.Post
 select-in-add-result t c =
-    let start = c .before .before .before .before .before .before .before in
-    let seat = c .before .before .before .before .seat-by in
-    let passed = c .before .before .before .words-before in
+    let start = c .before .before .before .before .before .before .before .before .before in
+    let seat = c .before .before .before .before .before .before .seat-by in
+    let passed = c .before .before .before .before .words-before in
     let link = c .before .before .link in
-    let is = selected-below (start .args .pool .now) (start .args .level) (start .args .b) (c .before .before .before .before .before .if1 .left) (seat .result) (link .result) (link .ensures .is) (start .args .c) (start .args .j) (passed .result) (c .select-in .result) (start .pre .1 .0 .1) (seat .ensures) (passed .ensures) (start .pre .1 .1 .0) (start .pre .1 .0 .0) (start .pre .1 .1 .1) (c .select-in .ensures) in
-    let few = branch-few (start .args .pool .now) (start .args .level) (start .args .b) (c .before .before .before .before .before .if1 .left) (λ at. (c .before .before .before .before .before .before .shared-slice-known .given at) .fits) (start .pre .1 .0 .0) in
-    omega (arith, selected-most _ _ _ is, few)
+    let is = selected-below (start .args .pool .now .now) (start .args .level) (start .args .b) (c .before .before .before .before .before .before .before .before .if1 .left) (seat .result) (link .result) (link .ensures .is) (start .args .c) (start .args .j) (passed .result) (c .select-in .result) (start .pre .1 .0 .1) (seat .ensures) (passed .ensures) (start .pre .1 .1 .0) (start .pre .1 .0 .0) (start .pre .1 .1 .1) (c .select-in .ensures) in
+    omega (arith, selected-most _ _ _ is, start .pre .1 .1 .2)
 
 select-in-returns-2 : (t : ℕ) → select-in-lts.Need-returns-2 (told t) (select-in-at t) select-in.Post
 select-in-returns-2 t c =
-    let start = c .before .before .before .before .before .before .before in
-    let seat = c .before .before .before .before .seat-by in
-    let passed = c .before .before .before .words-before in
+    let start = c .before .before .before .before .before .before .before .before .before in
+    let seat = c .before .before .before .before .before .before .seat-by in
+    let passed = c .before .before .before .before .words-before in
     let link = c .before .before .link in
-    selected-below (start .args .pool .now) (start .args .level) (start .args .b) (c .before .before .before .before .before .if1 .left) (seat .result) (link .result) (link .ensures .is) (start .args .c) (start .args .j) (passed .result) (c .select-in .result) (start .pre .1 .0 .1) (seat .ensures) (passed .ensures) (start .pre .1 .1 .0) (start .pre .1 .0 .0) (start .pre .1 .1 .1) (c .select-in .ensures)
+    selected-below (start .args .pool .now .now) (start .args .level) (start .args .b) (c .before .before .before .before .before .before .before .before .if1 .left) (seat .result) (link .result) (link .ensures .is) (start .args .c) (start .args .j) (passed .result) (c .select-in .result) (start .pre .1 .0 .1) (seat .ensures) (passed .ensures) (start .pre .1 .1 .0) (start .pre .1 .0 .0) (start .pre .1 .1 .1) (c .select-in .ensures)
 
 pub +select-in-spec : {M : Type 1} → statement M
 +select-in-spec = close μ-select-in λ t. select-in-lts.spec (told t)

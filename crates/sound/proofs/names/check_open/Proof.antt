@@ -2,7 +2,8 @@
 -- Assumes nothing.
 use borrow.Author.Needs.{needs}
 use borrow.Author.Tests.{not-true, not-false}
-use Rattle.sound.proofs.Naming.{alphabet-fits, record-refused, root-inside, root-size, root-refused, root-unfit, root-measured}
+use Rattle.sound.proofs.Walks.{walk-found}
+use Rattle.sound.proofs.Naming.{alphabet-fits, record-refused, root-refused, root-unfit, root-measured}
 use Rattle.sound.proofs.names.check_open.Statement.{statement}
 use Rattle.sound.proofs.names.check_open.Tie as tie
 
@@ -34,13 +35,18 @@ returns-2 : tie.Need-returns-2
 returns-2 c = search (root-refused, not-true)
 
 root-fits-requires : tie.Need-root-fits-requires
-root-fits-requires c κs = (search (root-inside, not-false), search (root-size, not-false))
+root-fits-requires c κs =
+    let root = walk-found _ (not-false (c .before .check-block .result) (c .if2 .left)) (c .before .check-block .ensures) .0 in
+    (root .inside, root .fits)
 
 returns-3 : tie.Need-returns-3
 returns-3 c = search (root-unfit, not-true)
 
 own-marks-requires : tie.Need-own-marks-requires
-own-marks-requires c κs = (search (root-inside, not-false), search (root-size, not-false))
+own-marks-requires c κs =
+    let checked = c .before .before .before .check-block in
+    let root = walk-found _ (not-false (checked .result) (c .before .before .if2 .left)) (checked .ensures) .0 in
+    (root .inside, root .fits)
 
 cast-result : tie.Need-cast-result
 cast-result c = search needs

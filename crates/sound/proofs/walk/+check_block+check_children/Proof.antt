@@ -3,8 +3,10 @@
 -- Assumes nothing.
 use borrow.Author.Needs.{needs}
 use borrow.Author.Tests.{not-true, not-false}
-use Rattle.sound.proofs.Walking.{children-below, block-below, fewer-children, block-inside, branch-fits, block-refused, leaf-walked, branch-walked, no-children, child-inside, child-fits, child-enough, child-refused, entry-refused, children-walked}
+use Rattle.sound.proofs.Walking.{children-below, block-below, fewer-children, block-inside, branch-fits, block-refused, leaf-walked, branch-walked, no-children, child-refused, entry-refused, children-walked}
 use Prim.Native.Nat.{ℕ, _+_, _*_, _<_}
+use native.Mathlib.Omega.{arith}
+use Rattle.sound.proofs.Walks.{walk-found}
 use borrow.Fn.Kinds.{In}
 use borrow.Fn.PlainCycle.{Measures, is, falls, and}
 use Rattle.sound.proofs.walk.check_block.Reads as check-block
@@ -21,34 +23,34 @@ use Rattle.sound.proofs.summaries.repeats.Reads as repeats-reads
 use Rattle.sound.proofs.walk.+check_block+check_children.{statement}
 use Rattle.sound.proofs.walk.+check_block+check_children.Tie.{close}
 
-abbrev μ-check-block : Measures 2 check-block-kinds.ps ℕ
+abbrev μ-check-block : Measures 3 check-block-kinds.ps ℕ
 μ-check-block κs a = 5 * a .1 .0
 
-abbrev μ-check-children : Measures 2 check-children-kinds.ps ℕ
+abbrev μ-check-children : Measures 3 check-children-kinds.ps ℕ
 μ-check-children κs a = 5 * a .1 .0 + a .1 .1 .1 .1 .0 + 1
 
-abbrev check-block-at : ℕ → In 2 check-block-kinds.ps
+abbrev check-block-at : ℕ → In 3 check-block-kinds.ps
 check-block-at t =
-    and 2 check-block-kinds.ps (is 2 check-block-kinds.ps μ-check-block t) check-block.Pre
+    and 3 check-block-kinds.ps (is 3 check-block-kinds.ps μ-check-block t) check-block.Pre
 
-abbrev check-block-below : ℕ → In 2 check-block-kinds.ps
+abbrev check-block-below : ℕ → In 3 check-block-kinds.ps
 check-block-below t =
-    and 2 check-block-kinds.ps (falls 2 check-block-kinds.ps _<_ μ-check-block t) check-block.Pre
+    and 3 check-block-kinds.ps (falls 3 check-block-kinds.ps _<_ μ-check-block t) check-block.Pre
 
-abbrev check-children-at : ℕ → In 2 check-children-kinds.ps
+abbrev check-children-at : ℕ → In 3 check-children-kinds.ps
 check-children-at t =
     and
-    2
+    3
     check-children-kinds.ps
-    (is 2 check-children-kinds.ps μ-check-children t)
+    (is 3 check-children-kinds.ps μ-check-children t)
     check-children.Pre
 
-abbrev check-children-below : ℕ → In 2 check-children-kinds.ps
+abbrev check-children-below : ℕ → In 3 check-children-kinds.ps
 check-children-below t =
     and
-    2
+    3
     check-children-kinds.ps
-    (falls 2 check-children-kinds.ps _<_ μ-check-children t)
+    (falls 3 check-children-kinds.ps _<_ μ-check-children t)
     check-children.Pre
 
 -- the contracts of those that a member calls, in the order of the calls
@@ -94,7 +96,7 @@ check-block-sub-check-children t c = search needs
 check-block-check-children-requires : (t : ℕ) → check-block-lts.Need-check-children-requires (block-told t) (check-block-at t) check-block.Post
 check-block-check-children-requires t c κs = (
   search (children-below, branch-fits, not-false),
-  (c .before .before .before .before .before .before .before .pre .1, (search (block-inside, not-false), search (branch-fits, not-false))),
+  (c .before .before .before .before .before .before .before .before .pre .1, (search (block-inside, not-false), search (branch-fits, not-false))),
 )
 
 check-block-returns-3 : (t : ℕ) → check-block-lts.Need-returns-3 (block-told t) (check-block-at t) check-block.Post
@@ -116,10 +118,10 @@ check-children-returns-2 : (t : ℕ) → check-children-lts.Need-returns-2 (chil
 check-children-returns-2 t c = search (child-refused, not-true)
 
 check-children-repeats-requires : (t : ℕ) → check-children-lts.Need-repeats-requires (children-told t) (check-children-at t) check-children.Post
-check-children-repeats-requires t c κs = (
-  search needs,
-  ((search (child-inside, not-false), search needs), (search (child-enough, not-false), search (child-fits, not-false))),
-)
+check-children-repeats-requires t c κs =
+    let checked = c .before .before .check-block in
+    let child = walk-found _ (not-false (checked .result) (c .before .if2 .left)) (checked .ensures) .0 in
+    (search needs, ((child .inside, search needs), (omega (arith, child .enough, c .before .before .before .before .least-entries .ensures), child .fits)))
 
 check-children-returns-3 : (t : ℕ) → check-children-lts.Need-returns-3 (children-told t) (check-children-at t) check-children.Post
 check-children-returns-3 t c = search (entry-refused, not-true, not-false)
@@ -131,7 +133,7 @@ check-children-sub-check-children : (t : ℕ) → check-children-lts.Need-sub-ch
 check-children-sub-check-children t c = search needs
 
 check-children-check-children-requires : (t : ℕ) → check-children-lts.Need-check-children-requires (children-told t) (check-children-at t) check-children.Post
-check-children-check-children-requires t c κs = (search fewer-children, (c .before .before .before .before .before .before .before .before .before .before .pre .1 .0, search needs))
+check-children-check-children-requires t c κs = (search fewer-children, (c .before .before .before .before .before .before .before .before .before .before .before .pre .1 .0, search needs))
 
 check-children-returns-4 : (t : ℕ) → check-children-lts.Need-returns-4 (children-told t) (check-children-at t) check-children.Post
 check-children-returns-4 t c = search (children-walked, not-false)
