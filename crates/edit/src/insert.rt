@@ -1,10 +1,11 @@
 // A mark put into a tree, at any level.
+ghost use Prim.Native.Nat.{_≤_};
+ghost use Rattle.geometry.specs.Layout.{mostHeight};
 ghost use Rattle.edit.specs.Inserts.{InsertReady, Inserted};
 use crate::Grown;
 use crate::branches::take_up;
+use crate::descent::find_way;
 use crate::leaves::insert_in_leaf;
-use crate::seat::find_child;
-use entries::link;
 
 // Puts c in at place i of the tree at block b, a block of a level. It enters one block a level, and writes no other that it didn't take.
 pub fn insert_in(
@@ -16,14 +17,28 @@ pub fn insert_in(
     map: &mut [u8],
     holder: u8,
 ) -> Grown
-    requires { ⌜ InsertReady (now pool) (now map) level b i c holder ⌝ }
+    requires { ⌜ InsertReady (now pool) (now map) level b i c holder × (level ≤ mostHeight) ⌝ }
     ensures { λ r. ⌜ Inserted level b i c holder r (now (pool .entry)) (now (pool .exit)) (now (map .entry)) (now (map .exit)) ⌝ }
 {
-    if level == 0 {
-        return insert_in_leaf(pool, b, i, c, map, holder);
+    let way = find_way(pool, level, b, i);
+    let blocks = way.blocks;
+    let places = way.places;
+    let children = way.children;
+    let mut grown = insert_in_leaf(pool, blocks[0], places[0], c, map, holder);
+    let mut at = 0;
+    while at < level {
+        grown = take_up(
+            pool,
+            at,
+            blocks[at + 1],
+            children[at + 1],
+            blocks[at],
+            c,
+            grown,
+            map,
+            holder,
+        );
+        at += 1;
     }
-    let seat = find_child(pool, b, i);
-    let child = link(pool, b, seat.k);
-    let grown = insert_in(pool, level - 1, child, i - seat.before, c, map, holder);
-    take_up(pool, level - 1, b, seat.k, child, c, grown, map, holder)
+    grown
 }
