@@ -18,7 +18,6 @@ use Rattle.edit.specs.Grafts.{TakeUpReady, TakenUp}
 use Rattle.edit.specs.Inserts.{InsertReady, Inserted}
 use Rattle.edit.specs.Ways.{Insertable, Down, WayTo}
 use Rattle.edit.specs.declared.Grown.{Grown}
-use Rattle.edit.specs.declared.descent.Way.{Way}
 use Rattle.edit.proofs.Ascents.{inserted-above}
 use Rattle.edit.proofs.Descents.{child-ready}
 use Rattle.edit.proofs.Levels.{choice-ready, link-ready, place-past}
@@ -42,43 +41,43 @@ module _ (p m : List ℕ) (h b i k child place c holder : ℕ) (ready : InsertRe
         inserted-above p m h b i c holder ready (down .seat) (down .seated) g q l made r t n taken
 
 -- the whole way
-module _ (p m : List ℕ) (h b i c holder : ℕ) (w : Way) (way : WayTo p h b i w) (ready : InsertReady p m h b i c holder) where
-  from-top : (d : ℕ) → d ≤ h → InsertReady p m (h - d) (getD (w .blocks) (h - d) 0) (getD (w .places) (h - d) 0) c holder
+module _ (p m : List ℕ) (h b i c holder : ℕ) (blocks places children : List ℕ) (way : WayTo p h b i blocks places children) (ready : InsertReady p m h b i c holder) where
+  from-top : (d : ℕ) → d ≤ h → InsertReady p m (h - d) (getD blocks (h - d) 0) (getD places (h - d) 0) c holder
   from-top zero le =
-      let top : InsertReady p m h (getD (w .blocks) h 0) (getD (w .places) h 0) c holder = rw (way .block) (rw (way .place) ready) in
+      let top : InsertReady p m h (getD blocks h 0) (getD places h 0) c holder = rw (way .block) (rw (way .place) ready) in
       let e : h ≡ h - zero = omega arith in
-      subst (λ (k : ℕ). InsertReady p m k (getD (w .blocks) k 0) (getD (w .places) k 0) c holder) e top
+      subst (λ (k : ℕ). InsertReady p m k (getD blocks k 0) (getD places k 0) c holder) e top
   from-top (suc d) le =
       let j : ℕ = h - suc d in
       let e : h - d ≡ suc j = omega arith in
-      let above : InsertReady p m (suc j) (getD (w .blocks) (suc j) 0) (getD (w .places) (suc j) 0) c holder =
-      subst (λ (k : ℕ). InsertReady p m k (getD (w .blocks) k 0) (getD (w .places) k 0) c holder) e (from-top d (omega arith)) in
+      let above : InsertReady p m (suc j) (getD blocks (suc j) 0) (getD places (suc j) 0) c holder =
+      subst (λ (k : ℕ). InsertReady p m k (getD blocks k 0) (getD places k 0) c holder) e (from-top d (omega arith)) in
       below-ready p m j _ _ _ _ _ c holder above (way .steps j (omega arith))
 
-  ready-at : (j : ℕ) → j ≤ h → InsertReady p m j (getD (w .blocks) j 0) (getD (w .places) j 0) c holder
+  ready-at : (j : ℕ) → j ≤ h → InsertReady p m j (getD blocks j 0) (getD places j 0) c holder
   ready-at j le =
       let e : h - (h - j) ≡ j = omega arith in
-      subst (λ (k : ℕ). InsertReady p m k (getD (w .blocks) k 0) (getD (w .places) k 0) c holder) e (from-top (h - j) (omega arith))
+      subst (λ (k : ℕ). InsertReady p m k (getD blocks k 0) (getD places k 0) c holder) e (from-top (h - j) (omega arith))
 
-  pub ready-leaf : InsertReady p m 0 (getD (w .blocks) 0 0) (getD (w .places) 0 0) c holder
+  pub ready-leaf : InsertReady p m 0 (getD blocks 0 0) (getD places 0 0) c holder
   ready-leaf = ready-at 0 (omega arith)
 
-  module _ (j : ℕ) (low : j < h) (g : Grown) (q l : List ℕ) (ins : Inserted j (getD (w .blocks) j 0) (getD (w .places) j 0) c holder g p q m l) where
-    pub climb-ready : TakeUpReady q l j (getD (w .blocks) (j + 1) 0) (getD (w .children) (j + 1) 0) (getD (w .blocks) j 0) c holder g
+  module _ (j : ℕ) (low : j < h) (g : Grown) (q l : List ℕ) (ins : Inserted j (getD blocks j 0) (getD places j 0) c holder g p q m l) where
+    pub climb-ready : TakeUpReady q l j (getD blocks (j + 1) 0) (getD children (j + 1) 0) (getD blocks j 0) c holder g
     climb-ready = rw (add-one j) (above-ready p m j _ _ _ _ _ c holder (ready-at (suc j) (omega arith)) (way .steps j low) g q l ins)
 
     pub climbed : (r : Grown) (t n : List ℕ)
-        → TakenUp j (getD (w .blocks) (j + 1) 0) (getD (w .children) (j + 1) 0) (getD (w .blocks) j 0) holder g r q t l n
-        → Inserted (j + 1) (getD (w .blocks) (j + 1) 0) (getD (w .places) (j + 1) 0) c holder r p t m n
+        → TakenUp j (getD blocks (j + 1) 0) (getD children (j + 1) 0) (getD blocks j 0) holder g r q t l n
+        → Inserted (j + 1) (getD blocks (j + 1) 0) (getD places (j + 1) 0) c holder r p t m n
     climbed r t n up =
-        let taken : TakenUp j (getD (w .blocks) (suc j) 0) (getD (w .children) (suc j) 0) (getD (w .blocks) j 0) holder g r q t l n = rw (add-one j) at up in
+        let taken : TakenUp j (getD blocks (suc j) 0) (getD children (suc j) 0) (getD blocks j 0) holder g r q t l n = rw (add-one j) at up in
         rw (add-one j) (above-inserted p m j _ _ _ _ _ c holder (ready-at (suc j) (omega arith)) (way .steps j low) g q l ins r t n taken)
 
   pub climbed-all : (j : ℕ) → j ≤ h → h ≤ j → (g : Grown) (q l : List ℕ)
-      → Inserted j (getD (w .blocks) j 0) (getD (w .places) j 0) c holder g p q m l → Inserted h b i c holder g p q m l
+      → Inserted j (getD blocks j 0) (getD places j 0) c holder g p q m l → Inserted h b i c holder g p q m l
   climbed-all j le end g q l ins =
       let e : h ≡ j = omega arith in
-      let all : Inserted h (getD (w .blocks) h 0) (getD (w .places) h 0) c holder g p q m l = rw e ins in
+      let all : Inserted h (getD blocks h 0) (getD places h 0) c holder g p q m l = rw e ins in
       rw (way .block) at (rw (way .place) at all)
 
 -- the way as it is found: so far it goes from block b of level h down to a block of level l
@@ -183,23 +182,17 @@ module _ (p : List ℕ) (h b i l block place : ℕ) (blocks places children : Li
       }
 
 pub found-all : (p : List ℕ) (h b i l block place : ℕ) (blocks places children : List ℕ) → Found p h b i l block place blocks places children → l ≤ 0
-    → WayTo p h b i (record { blocks = blocks; places = places; children = children })
+    → WayTo p h b i blocks places children
 found-all p h b i l block place blocks places children found end =
     record { block = found .topBlock; place = found .topPlace; steps = λ j lt. found .steps j (omega arith) lt }
 
 -- what the loop's calls need
 module _ (p : List ℕ) (h b i l block place : ℕ) (blocks places children : List ℕ) (found : Found p h b i l block place blocks places children) (more : 0 < l) where
-  found-choice : (block < shares p) × (leastBranch ≤ entries p block) × (entries p block ≤ mostBranch)
+  pub found-choice : (block < shares p) × (leastBranch ≤ entries p block) × (entries p block ≤ mostBranch)
   found-choice = choice-ready p _ l block place _ _ (found .some .ready) (λ e. omega arith)
 
   pub found-inside : block < shares p
   found-inside = found-choice .0
-
-  pub found-least : leastBranch ≤ entries p block
-  found-least = found-choice .1
-
-  pub found-most : entries p block ≤ mostBranch
-  found-most = found-choice .2
 
   module _ (s : Seat) (seated : Seated (marksBelow p block) (entries p block) place s) where
     pub found-low : s .k < mostBranch
@@ -215,21 +208,21 @@ insertable p m h b i c holder ready = record { map = m; symbol = c; holder = hol
 -- the way back up: the mark is put in below a block of level j of the way, and q and l are the pool and the map now
 pub record Climbing (p m : List ℕ) (h b i c holder : ℕ) (blocks children : List ℕ) (j : ℕ) (g : Grown) (q l : List ℕ) : Type 0 where
   pub places : List ℕ
-  pub way : WayTo p h b i (record { blocks = blocks; places = places; children = children })
+  pub way : WayTo p h b i blocks places children
   pub ready : InsertReady p m h b i c holder
   pub high : h ≤ mostHeight
   pub low : j ≤ h
   pub inserted : Inserted j (getD blocks j 0) (getD places j 0) c holder g p q m l
 
 module _ (p m : List ℕ) (h b i c holder : ℕ) where
-  pub climb-start : (w : Way) → WayTo p h b i w → InsertReady p m h b i c holder → h ≤ mostHeight → (g : Grown) (q l : List ℕ)
-      → Inserted 0 (getD (w .blocks) 0 0) (getD (w .places) 0 0) c holder g p q m l → Climbing p m h b i c holder (w .blocks) (w .children) 0 g q l
-  climb-start w way ready high g q l ins =
-      record { places = w .places; way = way; ready = ready; high = high; low = omega arith; inserted = ins }
+  pub climb-start : (blocks places children : List ℕ) → WayTo p h b i blocks places children → InsertReady p m h b i c holder → h ≤ mostHeight → (g : Grown) (q l : List ℕ)
+      → Inserted 0 (getD blocks 0 0) (getD places 0 0) c holder g p q m l → Climbing p m h b i c holder blocks children 0 g q l
+  climb-start blocks places children way ready high g q l ins =
+      record { places = places; way = way; ready = ready; high = high; low = omega arith; inserted = ins }
 
   module _ (blocks children : List ℕ) (j : ℕ) (g : Grown) (q l : List ℕ) (climbing : Climbing p m h b i c holder blocks children j g q l) where
     pub climb-up : j < h → TakeUpReady q l j (getD blocks (j + 1) 0) (getD children (j + 1) 0) (getD blocks j 0) c holder g
-    climb-up low = climb-ready p m h b i c holder _ (climbing .way) (climbing .ready) j low g q l (climbing .inserted)
+    climb-up low = climb-ready p m h b i c holder _ _ _ (climbing .way) (climbing .ready) j low g q l (climbing .inserted)
 
     pub climb-on : j < h → (r : Grown) (t n : List ℕ) → TakenUp j (getD blocks (j + 1) 0) (getD children (j + 1) 0) (getD blocks j 0) holder g r q t l n
         → Climbing p m h b i c holder blocks children (j + 1) r t n
@@ -240,8 +233,8 @@ module _ (p m : List ℕ) (h b i c holder : ℕ) where
           ready = climbing .ready;
           high = climbing .high;
           low = omega arith;
-          inserted = climbed p m h b i c holder _ (climbing .way) (climbing .ready) j low g q l (climbing .inserted) r t n up;
+          inserted = climbed p m h b i c holder _ _ _ (climbing .way) (climbing .ready) j low g q l (climbing .inserted) r t n up;
         }
 
     pub climb-end : h ≤ j → Inserted h b i c holder g p q m l
-    climb-end end = climbed-all p m h b i c holder _ (climbing .way) (climbing .ready) j (climbing .low) end g q l (climbing .inserted)
+    climb-end end = climbed-all p m h b i c holder _ _ _ (climbing .way) (climbing .ready) j (climbing .low) end g q l (climbing .inserted)

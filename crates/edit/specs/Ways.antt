@@ -9,7 +9,6 @@ use Rattle.entries.specs.Seats.{Seated}
 use Rattle.entries.specs.Summaries.{Is}
 use Rattle.entries.specs.declared.Seat.{Seat}
 use Rattle.edit.specs.Inserts.{InsertReady}
-use Rattle.edit.specs.declared.descent.Way.{Way}
 
 -- some mark can be put in at place i of the tree at block b
 pub record Insertable (p : List ℕ) (h b i : ℕ) : Type 0 where
@@ -27,8 +26,8 @@ pub record Down (p : List ℕ) (b i k child place : ℕ) : Type 0 where
   pub left : place ≡ i - seat .before
 
 -- the way from block b of level h
-pub record WayTo (p : List ℕ) (h b i : ℕ) (r : Way) : Type 0 where
-  pub block : getD (r .blocks) h 0 ≡ b
-  pub place : getD (r .places) h 0 ≡ i
+pub record WayTo (p : List ℕ) (h b i : ℕ) (blocks places children : List ℕ) : Type 0 where
+  pub block : getD blocks h 0 ≡ b
+  pub place : getD places h 0 ≡ i
   pub steps : (j : ℕ) → j < h
-      → Down p (getD (r .blocks) (suc j) 0) (getD (r .places) (suc j) 0) (getD (r .children) (suc j) 0) (getD (r .blocks) j 0) (getD (r .places) j 0)
+      → Down p (getD blocks (suc j) 0) (getD places (suc j) 0) (getD children (suc j) 0) (getD blocks j 0) (getD places j 0)

@@ -4,8 +4,9 @@ ghost use Rattle.geometry.specs.Layout.{mostHeight};
 ghost use Rattle.edit.specs.Inserts.{InsertReady, Inserted};
 use crate::Grown;
 use crate::branches::take_up;
-use crate::descent::find_way;
 use crate::leaves::insert_in_leaf;
+use crate::seat::find_child;
+use entries::link;
 
 // Puts c in at place i of the tree at block b, a block of a level. It enters one block a level, and writes no other that it didn't take.
 pub fn insert_in(
@@ -20,25 +21,40 @@ pub fn insert_in(
     requires { ⌜ InsertReady (now pool) (now map) level b i c holder × (level ≤ mostHeight) ⌝ }
     ensures { λ r. ⌜ Inserted level b i c holder r (now (pool .entry)) (now (pool .exit)) (now (map .entry)) (now (map .exit)) ⌝ }
 {
-    let way = find_way(pool, level, b, i);
-    let blocks = way.blocks;
-    let places = way.places;
-    let children = way.children;
+    // the way down: by level, the block entered, the place in it and the child taken there
+    let mut blocks = [0; 8];
+    let mut places = [0; 8];
+    let mut children = [0; 8];
+    let mut at = level;
+    let mut block = b;
+    let mut place = i;
+    blocks[at] = block;
+    places[at] = place;
+    while at > 0 {
+        let seat = find_child(pool, block, place);
+        block = link(pool, block, seat.k);
+        place -= seat.before;
+        children[at] = seat.k;
+        at -= 1;
+        blocks[at] = block;
+        places[at] = place;
+    }
     let mut grown = insert_in_leaf(pool, blocks[0], places[0], c, map, holder);
-    let mut at = 0;
-    while at < level {
+    // and back up
+    let mut up = 0;
+    while up < level {
         grown = take_up(
             pool,
-            at,
-            blocks[at + 1],
-            children[at + 1],
-            blocks[at],
+            up,
+            blocks[up + 1],
+            children[up + 1],
+            blocks[up],
             c,
             grown,
             map,
             holder,
         );
-        at += 1;
+        up += 1;
     }
     grown
 }
