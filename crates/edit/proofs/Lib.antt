@@ -17,3 +17,4 @@ pub mod Levels
 pub mod Outcomes
 pub mod RootGrowths
 pub mod WholeTrees
+pub mod WaysDown
