@@ -2,11 +2,12 @@
 ghost use Prim.Native.Nat.{_≤_};
 ghost use Rattle.geometry.specs.Layout.{mostHeight};
 ghost use Rattle.edit.specs.Inserts.{InsertReady, Inserted};
+ghost use Rattle.edit.specs.Ways.{Climber, Climbed};
 use crate::Grown;
 use crate::branches::take_up;
+use crate::descent::LEVELS;
+use crate::descent::find_way;
 use crate::leaves::insert_in_leaf;
-use crate::seat::find_child;
-use entries::link;
 
 // Puts c in at place i of the tree at block b, a block of a level. It enters one block a level, and writes no other that it didn't take.
 pub fn insert_in(
@@ -21,40 +22,45 @@ pub fn insert_in(
     requires { ⌜ InsertReady (now pool) (now map) level b i c holder × (level ≤ mostHeight) ⌝ }
     ensures { λ r. ⌜ Inserted level b i c holder r (now (pool .entry)) (now (pool .exit)) (now (map .entry)) (now (map .exit)) ⌝ }
 {
-    // the way down: by level, the block entered, the place in it and the child taken there
-    let mut blocks = [0; 8];
-    let mut places = [0; 8];
-    let mut children = [0; 8];
-    let mut at = level;
-    let mut block = b;
-    let mut place = i;
-    blocks[at] = block;
-    places[at] = place;
-    while at > 0 {
-        let seat = find_child(pool, block, place);
-        block = link(pool, block, seat.k);
-        place -= seat.before;
-        children[at] = seat.k;
-        at -= 1;
-        blocks[at] = block;
-        places[at] = place;
-    }
-    let mut grown = insert_in_leaf(pool, blocks[0], places[0], c, map, holder);
-    // and back up
-    let mut up = 0;
-    while up < level {
+    let mut blocks = [0; LEVELS];
+    let mut places = [0; LEVELS];
+    let mut children = [0; LEVELS];
+    find_way(pool, level, b, i, &mut blocks, &mut places, &mut children);
+    let grown = insert_in_leaf(pool, blocks[0], places[0], c, map, holder);
+    go_up(pool, level, c, &blocks, &children, grown, map, holder)
+}
+
+// Goes back up a way from its leaf, which an insert of c made this of: each branch takes up what became of its child.
+fn go_up(
+    pool: &mut [u8],
+    level: usize,
+    c: u8,
+    blocks: &[usize; LEVELS],
+    children: &[usize; LEVELS],
+    leaf: Grown,
+    map: &mut [u8],
+    holder: u8,
+) -> Grown
+    requires high { ⌜ level ≤ mostHeight ⌝ }
+    requires start { ⌜ Climber level c holder (now blocks) (now children) 0 leaf (now pool) (now map) ⌝ }
+    ensures { λ r. ⌜ Climbed level c holder (now (blocks .entry)) (now (children .entry)) 0 leaf (now (pool .entry)) (now (map .entry)) level r (now (pool .exit)) (now (map .exit)) ⌝ }
+{
+    let mut grown = leaf;
+    let mut at = 0;
+    while at < level {
+        let block = blocks[at + 1];
         grown = take_up(
             pool,
-            up,
-            blocks[up + 1],
-            children[up + 1],
-            blocks[up],
+            at,
+            block,
+            children[at + 1],
+            blocks[at],
             c,
             grown,
             map,
             holder,
         );
-        up += 1;
+        at += 1;
     }
     grown
 }
