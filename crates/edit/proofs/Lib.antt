@@ -18,3 +18,4 @@ pub mod Outcomes
 pub mod RootGrowths
 pub mod WholeTrees
 pub mod WaysDown
+pub mod WaysUp

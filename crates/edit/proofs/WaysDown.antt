@@ -1,6 +1,6 @@
--- The way down to a leaf: what is known at its start is known at each of its levels, and the edit goes back up it one level at a time.
+-- The way down to a leaf: what is known at its start is known at each of its levels, and an edit can go back up it one level at a time.
 -- Assumes nothing.
-use mathlib.Core.Path.{_≡_, refl, sym, subst, _∙_}
+use mathlib.Core.Path.{_≡_, refl, subst, _∙_}
 use mathlib.Core.List.{List}
 use Prim.Native.Nat.{ℕ, zero, suc, _+_, _-_, _≤_, _<_}
 use native.Mathlib.Numerals.{add-one}
@@ -16,7 +16,7 @@ use Rattle.entries.specs.Summaries.{Is}
 use Rattle.entries.specs.declared.Seat.{Seat}
 use Rattle.edit.specs.Grafts.{TakeUpReady, TakenUp}
 use Rattle.edit.specs.Inserts.{InsertReady, Inserted}
-use Rattle.edit.specs.Ways.{Insertable, Down, Room, WayTo, Climbing, Climber, Climbed}
+use Rattle.edit.specs.Ways.{Insertable, Down, Room, WayTo}
 use Rattle.edit.specs.declared.Grown.{Grown}
 use Rattle.edit.proofs.Ascents.{inserted-above}
 use Rattle.edit.proofs.Descents.{child-ready}
@@ -204,64 +204,3 @@ module _ (p : List ℕ) (h b i l block place : ℕ) (blocks places children : Li
 -- what find_way needs of an insert
 pub insertable : (p m : List ℕ) (h b i c holder : ℕ) → InsertReady p m h b i c holder → Insertable p h b i
 insertable p m h b i c holder ready = record { map = m; symbol = c; holder = holder; ready = ready }
-
--- the way back up
-climber : (p m : List ℕ) (h b i c holder : ℕ) (blocks children : List ℕ) (j : ℕ) (g : Grown) (q l : List ℕ)
-    → Climbing p m h b i c holder blocks children j g q l → Climber h c holder blocks children j g q l
-climber p m h b i c holder blocks children j g q l climbing = record { pool = p; map = m; block = b; place = i; climbing = climbing }
-
-climb-end : (p m : List ℕ) (h b i c holder : ℕ) (blocks children : List ℕ) (j : ℕ) (g : Grown) (q l : List ℕ)
-    → Climbing p m h b i c holder blocks children j g q l → h ≤ j → Inserted h b i c holder g p q m l
-climb-end p m h b i c holder blocks children j g q l climbing end =
-    climbed-all p m h b i c holder _ _ _ (climbing .way) (climbing .ready) j (climbing .low) end g q l (climbing .inserted)
-
-module _ (h c holder : ℕ) (blocks children : List ℕ) where
-  module _ (p m : List ℕ) (b i j : ℕ) (g : Grown) (q l : List ℕ) (climbing : Climbing p m h b i c holder blocks children j g q l) (low : j < h) where
-    climb-up : TakeUpReady q l j (getD blocks (j + 1) 0) (getD children (j + 1) 0) (getD blocks j 0) c holder g
-    climb-up = climb-ready p m h b i c holder _ _ _ (climbing .way) (climbing .ready) j low g q l (climbing .inserted)
-
-    climb-on : (r : Grown) (t n : List ℕ) → TakenUp j (getD blocks (j + 1) 0) (getD children (j + 1) 0) (getD blocks j 0) holder g r q t l n
-        → Climbing p m h b i c holder blocks children (j + 1) r t n
-    climb-on r t n up =
-        record {
-          places = climbing .places;
-          way = climbing .way;
-          ready = climbing .ready;
-          low = omega arith;
-          inserted = climbed p m h b i c holder _ _ _ (climbing .way) (climbing .ready) j low g q l (climbing .inserted) r t n up;
-        }
-
-  -- from where it began
-  pub climbed-start : (j : ℕ) (g : Grown) (q l : List ℕ) → Climber h c holder blocks children j g q l → Climbed h c holder blocks children j g q l j g q l
-  climbed-start j g q l some = record { long = refl; longMap = refl; some = some; each = λ p m b i start. start }
-
-  module _ (j₀ : ℕ) (g₀ : Grown) (q₀ l₀ : List ℕ) (j : ℕ) (g : Grown) (q l : List ℕ) (so-far : Climbed h c holder blocks children j₀ g₀ q₀ l₀ j g q l) where
-    pub next-ready : j < h → TakeUpReady q l j (getD blocks (j + 1) 0) (getD children (j + 1) 0) (getD blocks j 0) c holder g
-    next-ready low = climb-up _ _ _ _ _ _ _ _ (so-far .some .climbing) low
-
-    pub next-climbed : j < h → (r : Grown) (t n : List ℕ) → TakenUp j (getD blocks (j + 1) 0) (getD children (j + 1) 0) (getD blocks j 0) holder g r q t l n
-        → Climbed h c holder blocks children j₀ g₀ q₀ l₀ (j + 1) r t n
-    next-climbed low r t n up =
-        record {
-          long = up .regrouped .only .long ∙ so-far .long;
-          longMap = up .regrouped .entered .long ∙ so-far .longMap;
-          some = climber _ _ _ _ _ _ _ _ _ _ _ _ _ (climb-on _ _ _ _ _ _ _ _ (so-far .some .climbing) low r t n up);
-          each = λ p m b i start. climb-on _ _ _ _ _ _ _ _ (so-far .each p m b i start) low r t n up;
-        }
-
-    pub all-climbed : h ≤ j → Climbed h c holder blocks children j₀ g₀ q₀ l₀ h g q l
-    all-climbed end =
-        let e : h ≡ j = omega (arith, so-far .some .climbing .low) in
-        subst (λ (k : ℕ). Climbed h c holder blocks children j₀ g₀ q₀ l₀ k g q l) (sym e) so-far
-
--- the insert that went down the way
-module _ (p m : List ℕ) (h b i c holder : ℕ) (blocks places children : List ℕ) (way : WayTo p h b i blocks places children) (ready : InsertReady p m h b i c holder)
-    (g : Grown) (q l : List ℕ) (ins : Inserted 0 (getD blocks 0 0) (getD places 0 0) c holder g p q m l) where
-  climb-start : Climbing p m h b i c holder blocks children 0 g q l
-  climb-start = record { places = places; way = way; ready = ready; low = omega arith; inserted = ins }
-
-  pub way-climber : Climber h c holder blocks children 0 g q l
-  way-climber = climber _ _ _ _ _ _ _ _ _ _ _ _ _ climb-start
-
-  pub way-inserted : (r : Grown) (t n : List ℕ) → Climbed h c holder blocks children 0 g q l h r t n → Inserted h b i c holder r p t m n
-  way-inserted r t n up = climb-end _ _ _ _ _ _ _ _ _ _ _ _ _ (up .each _ _ _ _ climb-start) (omega arith)

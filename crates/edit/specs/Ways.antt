@@ -1,6 +1,7 @@
 -- The way down to the leaf that takes a place, by level: the block entered, the place in it, and the child taken there.
 -- Assumes nothing.
 use mathlib.Core.Path.{_≡_}
+use mathlib.Core.Bool.{false}
 use mathlib.Core.List.{List}
 use Prim.Native.Nat.{ℕ, suc, _+_, _-_, _≤_, _<_}
 use lib.ListN.{length, getD}
@@ -61,3 +62,18 @@ pub record Climbed (h c holder : ℕ) (blocks children : List ℕ) (j : ℕ) (g 
   pub longMap : length l' ≡ length l
   pub some : Climber h c holder blocks children j' g' q' l'
   pub each : (p m : List ℕ) (b i : ℕ) → Climbing p m h b i c holder blocks children j g q l → Climbing p m h b i c holder blocks children j' g' q' l'
+
+-- some insert has come up to level j, and split nothing there
+pub record Counter (h c : ℕ) (blocks children : List ℕ) (j : ℕ) (q : List ℕ) : Type 0 where
+  pub holder : ℕ
+  pub grown : Grown
+  pub map : List ℕ
+  pub whole : grown .split ≡ false
+  pub climber : Climber h c holder blocks children j grown q map
+
+-- each such insert has now come up to level j', and split nothing more
+pub record Counted (h c : ℕ) (blocks children : List ℕ) (j : ℕ) (q : List ℕ) (j' : ℕ) (q' : List ℕ) : Type 0 where
+  pub long : length q' ≡ length q
+  pub some : Counter h c blocks children j' q'
+  pub each : (holder : ℕ) (g : Grown) (l : List ℕ) → g .split ≡ false → Climber h c holder blocks children j g q l
+      → Climbed h c holder blocks children j g q l j' g q' l

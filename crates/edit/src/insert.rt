@@ -2,12 +2,13 @@
 ghost use Prim.Native.Nat.{_≤_};
 ghost use Rattle.geometry.specs.Layout.{mostHeight};
 ghost use Rattle.edit.specs.Inserts.{InsertReady, Inserted};
-ghost use Rattle.edit.specs.Ways.{Climber, Climbed};
+ghost use Rattle.edit.specs.Ways.{Climber, Climbed, Counter, Counted};
 use crate::Grown;
 use crate::branches::take_up;
 use crate::descent::LEVELS;
 use crate::descent::find_way;
 use crate::leaves::insert_in_leaf;
+use entries::add_mark;
 
 // Puts c in at place i of the tree at block b, a block of a level. It enters one block a level, and writes no other that it didn't take.
 pub fn insert_in(
@@ -48,6 +49,10 @@ fn go_up(
     let mut grown = leaf;
     let mut at = 0;
     while at < level {
+        if !grown.split {
+            count_up(pool, at, level, c, blocks, children);
+            return grown;
+        }
         let block = blocks[at + 1];
         grown = take_up(
             pool,
@@ -63,4 +68,24 @@ fn go_up(
         at += 1;
     }
     grown
+}
+
+// Goes up a way from a level where nothing was split: each branch above counts one mark more, a c.
+fn count_up(
+    pool: &mut [u8],
+    from: usize,
+    level: usize,
+    c: u8,
+    blocks: &[usize; LEVELS],
+    children: &[usize; LEVELS],
+)
+    requires high { ⌜ level ≤ mostHeight ⌝ }
+    requires start { ⌜ Counter level c (now blocks) (now children) from (now pool) ⌝ }
+    ensures { λ _. ⌜ Counted level c (now (blocks .entry)) (now (children .entry)) from (now (pool .entry)) level (now (pool .exit)) ⌝ }
+{
+    let mut at = from;
+    while at < level {
+        at += 1;
+        add_mark(pool, blocks[at], children[at], c as usize);
+    }
 }

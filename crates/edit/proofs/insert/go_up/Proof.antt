@@ -4,7 +4,7 @@ use borrow.Author.Needs.{needs}
 use Prim.Native.Nat.{_-_}
 use native.Mathlib.Omega.{arith}
 use Rattle.edit.specs.Ways.{Climbed}
-use Rattle.edit.proofs.WaysDown.{climbed-start, next-ready, next-climbed, all-climbed}
+use Rattle.edit.proofs.WaysUp.{climbed-start, next-ready, next-climbed, all-climbed, counter, rest-climbed}
 use Rattle.edit.proofs.insert.go_up.Statement.{statement}
 use Rattle.edit.proofs.insert.go_up.Tie as tie
 
@@ -18,6 +18,18 @@ abbrev μ-loop : tie.MeasureT-loop
 
 loop-holds : tie.Need-loop-holds Inv-loop μ-loop
 loop-holds c = search climbed-start
+
+count-up-requires : tie.Need-count-up-requires Inv-loop μ-loop
+count-up-requires c κs = (search needs, search counter)
+
+same-length : tie.Need-same-length Inv-loop μ-loop
+same-length c = search needs
+
+same-length-2 : tie.Need-same-length-2 Inv-loop μ-loop
+same-length-2 c = search needs
+
+returns : tie.Need-returns Inv-loop μ-loop
+returns c = search rest-climbed
 
 add-block : tie.Need-add-block Inv-loop μ-loop
 add-block c = search needs
@@ -55,14 +67,14 @@ loop-less c = search needs
 loop-again : tie.Need-loop-again Inv-loop μ-loop
 loop-again c = search next-climbed
 
-same-length : tie.Need-same-length Inv-loop μ-loop
-same-length c = search needs
+same-length-3 : tie.Need-same-length-3 Inv-loop μ-loop
+same-length-3 c = search needs
 
-same-length-2 : tie.Need-same-length-2 Inv-loop μ-loop
-same-length-2 c = search needs
+same-length-4 : tie.Need-same-length-4 Inv-loop μ-loop
+same-length-4 c = search needs
 
-returns : tie.Need-returns Inv-loop μ-loop
-returns c = search all-climbed
+returns-2 : tie.Need-returns-2 Inv-loop μ-loop
+returns-2 c = search all-climbed
 
 pub go-up-spec : {M : Type 1} → statement M
 go-up-spec =
@@ -71,6 +83,10 @@ go-up-spec =
     Inv-loop
     μ-loop
     loop-holds
+    count-up-requires
+    same-length
+    same-length-2
+    returns
     add-block
     mul-block
     element-copy-out-block
@@ -83,6 +99,6 @@ go-up-spec =
     add-at
     loop-less
     loop-again
-    same-length
-    same-length-2
-    returns)
+    same-length-3
+    same-length-4
+    returns-2)

@@ -1,7 +1,8 @@
 -- `edit::insert::insert_in` meets its contract: a way found, the leaf's insert, and the way back up make the tree's.
 -- Assumes nothing.
 use borrow.Author.Needs.{needs}
-use Rattle.edit.proofs.WaysDown.{insertable, ready-leaf, way-climber, way-inserted}
+use Rattle.edit.proofs.WaysDown.{insertable, ready-leaf}
+use Rattle.edit.proofs.WaysUp.{way-climber, way-inserted}
 use Rattle.edit.proofs.insert.insert_in.Statement.{statement}
 use Rattle.edit.proofs.insert.insert_in.Tie as tie
 
