@@ -13,7 +13,7 @@ use Rattle.pool.specs.Blocks.{marksBelow, countBelow}
 use Rattle.pool.specs.Bytes.{shares}
 use Rattle.pool.specs.Words.{wordLimit}
 use Rattle.entries.specs.Entries.{AddMark}
-use Rattle.edit.specs.Grafts.{TakeUpReady, TakenUp}
+use Rattle.edit.specs.Grafts.{TakeUpReady, halved, SplitReady, TakenUp}
 use Rattle.edit.specs.Inserts.{InsertReady, Inserted}
 use Rattle.edit.specs.Ways.{WayTo, Climbing, Climber, Climbed, Counter, Counted}
 use Rattle.edit.specs.declared.Grown.{Grown}
@@ -50,10 +50,10 @@ module _ (h c holder : ℕ) (blocks children : List ℕ) where
   climbed-start j g q l some = record { long = refl; longMap = refl; some = some; each = λ p m b i start. start }
 
   module _ (j₀ : ℕ) (g₀ : Grown) (q₀ l₀ : List ℕ) (j : ℕ) (g : Grown) (q l : List ℕ) (so-far : Climbed h c holder blocks children j₀ g₀ q₀ l₀ j g q l) where
-    pub next-ready : j < h → TakeUpReady q l j (getD blocks (j + 1) 0) (getD children (j + 1) 0) (getD blocks j 0) c holder g
+    next-ready : j < h → TakeUpReady q l j (getD blocks (j + 1) 0) (getD children (j + 1) 0) (getD blocks j 0) c holder g
     next-ready low = climb-up _ _ _ _ _ _ _ _ (so-far .some .climbing) low
 
-    pub next-climbed : j < h → (r : Grown) (t n : List ℕ) → TakenUp j (getD blocks (j + 1) 0) (getD children (j + 1) 0) (getD blocks j 0) holder g r q t l n
+    next-climbed : j < h → (r : Grown) (t n : List ℕ) → TakenUp j (getD blocks (j + 1) 0) (getD children (j + 1) 0) (getD blocks j 0) holder g r q t l n
         → Climbed h c holder blocks children j₀ g₀ q₀ l₀ (j + 1) r t n
     next-climbed low r t n up =
         record {
@@ -79,6 +79,10 @@ module _ (p m : List ℕ) (h b i c holder : ℕ) (blocks places children : List 
 
   pub way-inserted : (r : Grown) (t n : List ℕ) → Climbed h c holder blocks children 0 g q l h r t n → Inserted h b i c holder r p t m n
   way-inserted r t n up = climb-end _ _ _ _ _ _ _ _ _ _ _ _ _ (up .each _ _ _ _ climb-start) (omega arith)
+
+not-false : (s : Bool) → not s ≡ false → s ≡ true
+not-false true e = refl
+not-false false e = sym e
 
 not-true : (s : Bool) → not s ≡ true → s ≡ false
 not-true false e = refl
@@ -171,3 +175,25 @@ module _ (h c : ℕ) (blocks children : List ℕ) where
           some = rest .some;
           each = λ p m b i start. rest .each p m b i (so-far .each p m b i start);
         }
+
+-- a level of the way where there was a split
+module _ (h c holder : ℕ) (blocks children : List ℕ) (j₀ : ℕ) (g₀ : Grown) (q₀ l₀ : List ℕ) (j : ℕ) (g : Grown) (q l : List ℕ)
+    (so-far : Climbed h c holder blocks children j₀ g₀ q₀ l₀ j g q l) (low : j < h) (split : not (g .split) ≡ false) where
+  halves : (P : Grown → Type 0) → P g → P (halved (g .new))
+  halves P it = subst (λ (s : Bool). P (record { split = s; new = g .new })) (not-false (g .split) split) it
+
+  whole-again : (P : Grown → Type 0) → P (halved (g .new)) → P g
+  whole-again P it = subst (λ (s : Bool). P (record { split = s; new = g .new })) (sym (not-false (g .split) split)) it
+
+  pub split-ready : SplitReady q l j (getD blocks (j + 1) 0) (getD children (j + 1) 0) (getD blocks j 0) (g .new) holder
+  split-ready =
+      record {
+        symbol = c;
+        ready = halves (λ (x : Grown). TakeUpReady q l j (getD blocks (j + 1) 0) (getD children (j + 1) 0) (getD blocks j 0) c holder x) (next-ready h c holder blocks children j₀ g₀ q₀ l₀ j g q l so-far low);
+      }
+
+  pub split-climbed : (r : Grown) (t n : List ℕ) → TakenUp j (getD blocks (j + 1) 0) (getD children (j + 1) 0) (getD blocks j 0) holder (halved (g .new)) r q t l n
+      → Climbed h c holder blocks children j₀ g₀ q₀ l₀ (j + 1) r t n
+  split-climbed r t n up =
+      next-climbed h c holder blocks children j₀ g₀ q₀ l₀ j g q l so-far low r t n
+      (whole-again (λ (x : Grown). TakenUp j (getD blocks (j + 1) 0) (getD children (j + 1) 0) (getD blocks j 0) holder x r q t l n) up)

@@ -60,8 +60,7 @@ fn go_up(
             block,
             children[at + 1],
             blocks[at],
-            c,
-            grown,
+            grown.new,
             map,
             holder,
         );

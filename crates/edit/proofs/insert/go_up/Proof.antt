@@ -4,7 +4,7 @@ use borrow.Author.Needs.{needs}
 use Prim.Native.Nat.{_-_}
 use native.Mathlib.Omega.{arith}
 use Rattle.edit.specs.Ways.{Climbed}
-use Rattle.edit.proofs.WaysUp.{climbed-start, next-ready, next-climbed, all-climbed, counter, rest-climbed}
+use Rattle.edit.proofs.WaysUp.{climbed-start, split-ready, split-climbed, all-climbed, counter, rest-climbed}
 use Rattle.edit.proofs.insert.go_up.Statement.{statement}
 use Rattle.edit.proofs.insert.go_up.Tie as tie
 
@@ -56,7 +56,7 @@ element-copy-out-take-up-2 : tie.Need-element-copy-out-take-up-2 Inv-loop μ-loo
 element-copy-out-take-up-2 c = search needs
 
 take-up-requires : tie.Need-take-up-requires Inv-loop μ-loop
-take-up-requires c κs = search next-ready
+take-up-requires c κs = search split-ready
 
 add-at : tie.Need-add-at Inv-loop μ-loop
 add-at c = search needs
@@ -65,7 +65,7 @@ loop-less : tie.Need-loop-less Inv-loop μ-loop
 loop-less c = search needs
 
 loop-again : tie.Need-loop-again Inv-loop μ-loop
-loop-again c = search next-climbed
+loop-again c = search split-climbed
 
 same-length-3 : tie.Need-same-length-3 Inv-loop μ-loop
 same-length-3 c = search needs
