@@ -17,3 +17,5 @@ pub mod Levels
 pub mod Outcomes
 pub mod RootGrowths
 pub mod WholeTrees
+pub mod WaysDown
+pub mod WaysUp

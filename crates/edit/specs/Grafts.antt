@@ -1,7 +1,7 @@
 -- A branch takes up what an edit made of a child: an entry is written anew, and one is put in behind it where the child was split.
 -- Assumes nothing.
 use mathlib.Core.Path.{_≡_}
-use mathlib.Core.Bool.{cond}
+use mathlib.Core.Bool.{true, cond}
 use mathlib.Core.List.{List, [], _∷_, _++_, map}
 use mathlib.Core.Logic.{_⊎_}
 use Prim.Native.Nat.{ℕ, suc, _+_, _-_, _≤_, _<_}
@@ -84,6 +84,15 @@ pub record TakeUpReady (p m : List ℕ) (h b k child c holder : ℕ) (g : Grown)
   pub counts : (d : ℕ) → d < mostAlphabet → total (λ x. count d (flat h (shapeAt p h x))) (roots g child) ≡ countBelow p b k d + isMark d c
   pub short : marksBelow p b k + 1 < wordLimit
   pub room : entries p b + cond (g .split) 1 0 ≤ mostBranch + freeIn m
+
+-- a block that was split, and the new one behind it
+abbrev pub halved : ℕ → Grown
+halved new = record { split = true; new = new }
+
+-- the same of a child that some mark split
+pub record SplitReady (p m : List ℕ) (h b k child new holder : ℕ) : Type 0 where
+  pub symbol : ℕ
+  pub ready : TakeUpReady p m h b k child symbol holder (halved new)
 
 -- the branch has an entry for each piece, in place of entry k
 pub record TakenUp (h b k child holder : ℕ) (g r : Grown) (p q m n : List ℕ) : Type 0 where

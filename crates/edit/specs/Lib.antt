@@ -4,3 +4,4 @@ pub mod Entries
 pub mod Grafts
 pub mod Roots
 pub mod Trees
+pub mod Ways

@@ -6,45 +6,35 @@ ghost use Rattle.pool.specs.Blocks.{entries};
 ghost use Rattle.pool.specs.Bytes.{shares};
 ghost use Rattle.pool.specs.Words.{wordLimit};
 ghost use Rattle.blocks.specs.Contents.{BranchAt};
-ghost use Rattle.edit.specs.Grafts.{EntryPut, BranchSplit, GraftReady, Grafted, TakeUpReady, TakenUp};
+ghost use Rattle.edit.specs.Grafts.{EntryPut, BranchSplit, GraftReady, Grafted, halved, SplitReady, TakenUp};
 use crate::Grown;
 use crate::map::take_block;
 use blocks::branch::cut_branch;
 use blocks::branch::open_entry;
 use entries::Summary;
-use entries::add_mark;
 use entries::entry_count;
 use entries::set_entry;
 use entries::summary_of;
 use geometry::Record;
 
-// Takes up what an insert of c made of child k of the branch b: the entry says one mark more, or there are two entries in its place.
-// The level is the child's.
+// Takes up that an insert split child k of the branch b: there are two entries in its place. The level is the child's.
 pub fn take_up(
     pool: &mut [u8],
     level: usize,
     b: usize,
     k: usize,
     child: usize,
-    c: u8,
-    grown: Grown,
+    new: usize,
     map: &mut [u8],
     holder: u8,
 ) -> Grown
-    requires { ⌜ TakeUpReady (now pool) (now map) level b k child c holder grown ⌝ }
-    ensures { λ r. ⌜ TakenUp level b k child holder grown r (now (pool .entry)) (now (pool .exit)) (now (map .entry)) (now (map .exit)) ⌝ }
+    requires { ⌜ SplitReady (now pool) (now map) level b k child new holder ⌝ }
+    ensures { λ r. ⌜ TakenUp level b k child holder (halved new) r (now (pool .entry)) (now (pool .exit)) (now (map .entry)) (now (map .exit)) ⌝ }
 {
-    if grown.split {
-        let left = summary_of(pool, level, child);
-        let right = summary_of(pool, level, grown.new);
-        set_entry(pool, b, k, child, left);
-        return graft_entry(pool, b, k + 1, grown.new, right, map, holder);
-    }
-    add_mark(pool, b, k, c as usize);
-    Grown {
-        split: false,
-        new: 0,
-    }
+    let left = summary_of(pool, level, child);
+    let right = summary_of(pool, level, new);
+    set_entry(pool, b, k, child, left);
+    graft_entry(pool, b, k + 1, new, right, map, holder)
 }
 
 // Puts an entry in as number k of a branch, which is split if it is full.

@@ -1,5 +1,6 @@
 // Marks put into a name's tree. Blocks are taken from the map of the pool's blocks when a node is split, and not before.
 mod branches;
+mod descent;
 mod insert;
 mod leaves;
 mod map;

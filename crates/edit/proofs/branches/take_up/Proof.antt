@@ -1,32 +1,33 @@
--- `edit::branches::take_up` meets its contract: two entries where the child was split, else one that says a mark more.
+-- `edit::branches::take_up` meets its contract: the entries of both pieces are written with their summaries.
 -- Assumes nothing.
-use Rattle.edit.proofs.TakeUps.{add-ready, taken-up-one, left-ready, right-ready, set-ready, graft-ready, taken-up-two}
+use mathlib.Core.Path.{refl}
+use Rattle.edit.proofs.TakeUps.{left-ready, right-ready, set-ready, graft-ready, taken-up-two}
 use borrow.Author.Needs.{needs}
 use Rattle.edit.proofs.branches.take_up.Statement.{statement}
 use Rattle.edit.proofs.branches.take_up.Tie as tie
 
 summary-of-requires : tie.Need-summary-of-requires
 summary-of-requires c κs =
-    let start = c .before .before .before .before in
-    left-ready _ _ _ _ _ _ (start .args .c) _ _ (start .pre) (c .before .if1 .taken)
+    let start = c .before .before .before in
+    left-ready _ _ _ _ _ _ _ _ _ (start .pre .ready) refl
 
 summary-of-requires-2 : tie.Need-summary-of-requires-2
 summary-of-requires-2 c κs =
-    let start = c .before .before .before .before .before .before in
-    right-ready _ _ _ _ _ _ (start .args .c) _ _ (start .pre) (c .before .before .before .if1 .taken)
+    let start = c .before .before .before .before .before in
+    right-ready _ _ _ _ _ _ _ _ _ (start .pre .ready) refl
 
 set-entry-requires : tie.Need-set-entry-requires
 set-entry-requires c κs =
-    let start = c .before .before .before .before .before .before .before .before in
-    set-ready _ _ _ _ _ _ (start .args .c) _ _ (start .pre) (c .before .before .before .before .before .if1 .taken)
+    let start = c .before .before .before .before .before .before .before in
+    set-ready _ _ _ _ _ _ _ _ _ (start .pre .ready) refl
 
 add-graft-entry : tie.Need-add-graft-entry
 add-graft-entry c = search needs
 
 graft-entry-requires : tie.Need-graft-entry-requires
 graft-entry-requires c κs =
-    let start = c .before .before .before .before .before .before .before .before .before .before .before .before .before in
-    graft-ready _ _ _ _ _ _ (start .args .c) _ _ (start .pre) (c .before .before .before .before .before .before .before .before .before .before .if1 .taken) _ _ (c .before .before .before .before .before .before .before .before .summary-of .ensures) (c .before .before .before .before .before .before .summary-of2 .ensures) _ (c .before .before .before .before .set-entry .ensures)
+    let start = c .before .before .before .before .before .before .before .before .before .before .before .before in
+    graft-ready _ _ _ _ _ _ _ _ _ (start .pre .ready) refl _ _ (c .before .before .before .before .before .before .before .before .summary-of .ensures) (c .before .before .before .before .before .before .summary-of2 .ensures) _ (c .before .before .before .before .set-entry .ensures)
 
 same-length : tie.Need-same-length
 same-length c = search needs
@@ -36,21 +37,8 @@ same-length-2 c = search needs
 
 returns : tie.Need-returns
 returns c =
-    let start = c .before .before .before .before .before .before .before .before .before .before .before .before .before .before .before .before .before .before in
-    taken-up-two _ _ _ _ _ _ (start .args .c) _ _ (start .pre) (c .before .before .before .before .before .before .before .before .before .before .before .before .before .before .before .if1 .taken) _ _ (c .before .before .before .before .before .before .before .before .before .before .before .before .before .summary-of .ensures) (c .before .before .before .before .before .before .before .before .before .before .before .summary-of2 .ensures) _ (c .before .before .before .before .before .before .before .before .before .set-entry .ensures) _ _ _ (c .before .before .before .before .graft-entry .ensures)
-
-add-mark-requires : tie.Need-add-mark-requires
-add-mark-requires c κs =
-    let start = c .before .before .before .before in
-    add-ready _ _ _ _ _ _ (start .args .c) _ _ (start .pre) (c .before .if1 .left)
-
-same-length-3 : tie.Need-same-length-3
-same-length-3 c = search needs
-
-returns-2 : tie.Need-returns-2
-returns-2 c =
-    let start = c .before .before .before .before .before .before .before in
-    taken-up-one _ _ _ _ _ _ (start .args .c) _ _ (start .pre) (c .before .before .before .before .if1 .left) _ (c .before .before .add-mark .ensures)
+    let start = c .before .before .before .before .before .before .before .before .before .before .before .before .before .before .before .before .before in
+    taken-up-two _ _ _ _ _ _ _ _ _ (start .pre .ready) refl _ _ (c .before .before .before .before .before .before .before .before .before .before .before .before .before .summary-of .ensures) (c .before .before .before .before .before .before .before .before .before .before .before .summary-of2 .ensures) _ (c .before .before .before .before .before .before .before .before .before .set-entry .ensures) _ _ _ (c .before .before .before .before .graft-entry .ensures)
 
 pub take-up-spec : {M : Type 1} → statement M
 take-up-spec =
@@ -63,7 +51,4 @@ take-up-spec =
     graft-entry-requires
     same-length
     same-length-2
-    returns
-    add-mark-requires
-    same-length-3
-    returns-2)
+    returns)
