@@ -2,6 +2,8 @@
 //!
 //! Times are nanoseconds a frame, the best of some tries. The library and the twin are called with so many
 //! frames a call, and every call checks the pool; the flat array and the rope are called once an operation.
+//! Tries go through different rounds of random frames: a processor learns the branches of frames that come
+//! again and again, and a user's frames don't.
 
 mod contestants;
 #[path = "../host/dice.rs"]
@@ -18,7 +20,9 @@ use std::time::Instant;
 const LENGTHS: [usize; 4] = [100, 1_000, 4_000, 12_192];
 const BATCHES: [usize; 3] = [1, 16, 1_024];
 const FRAMES: usize = 1_024;
-const TRIES: usize = 60;
+const TRIES: usize = 192;
+/// Different frames for the tries.
+const ROUNDS: usize = 32;
 /// Calls of one try.
 const CALLS: usize = 16;
 const NAME: usize = 5;
@@ -59,22 +63,45 @@ fn some_file(length: usize, name: usize, shares: usize, mark: fn(&mut Dice) -> u
     file
 }
 
-/// The least time of a try, divided by the number of operations in it. What comes before is not counted.
-/// Tries are short, so that some of them aren't broken off by other work on the machine.
-fn best<T>(operations: usize, prepare: impl Fn() -> T, work: impl Fn(&mut T)) -> f64 {
-    let one_try = |_| {
-        let mut subject = prepare();
+/// Frames that are timed, and frames that come before them.
+struct Round {
+    before: Vec<Frame>,
+    frames: Vec<Frame>,
+}
+
+/// One try of a contestant at a round: the nanoseconds of an operation in it.
+type Try<'a> = Box<dyn Fn(usize) -> f64 + 'a>;
+
+/// A try of so many operations. What prepares it is not counted, nor is a first go, at another round, that warms up what the contestants
+/// before it left cold.
+fn one_try<'a, T>(operations: usize, prepare: impl Fn(usize) -> T + 'a, work: impl Fn(&mut T, usize) + 'a) -> Try<'a> {
+    Box::new(move |round| {
+        let other = (round + 1) % ROUNDS;
+        work(&mut prepare(other), other);
+        let mut subject = prepare(round);
         let start = Instant::now();
-        work(&mut subject);
+        work(&mut subject, round);
         let took = start.elapsed().as_nanos() as f64 / operations as f64;
         black_box(subject);
         took
-    };
-    (0..TRIES).map(one_try).fold(f64::MAX, f64::min)
+    })
 }
 
-fn queries(code: u8, file: &File) -> Vec<Frame> {
-    let mut dice = Dice::new(code as u64);
+/// The least time of each contestant. They take turns, so that a slow or a fast spell of the machine meets all of them, and tries are
+/// short, so that some of them aren't broken off by other work.
+fn best<const MANY: usize>(contestants: [Try; MANY]) -> [f64; MANY] {
+    let mut least = [f64::MAX; MANY];
+    for turn in 0..TRIES {
+        for (time, contestant) in least.iter_mut().zip(&contestants) {
+            *time = time.min(contestant(turn % ROUNDS));
+        }
+    }
+    least
+}
+
+/// A round of queries of one kind, each at a random place.
+fn queries(code: u8, file: &File, seed: u64) -> Round {
+    let mut dice = Dice::new(seed);
     let length = file.marks.len();
     let one = |dice: &mut Dice| {
         let place = dice.between(1, length);
@@ -86,17 +113,17 @@ fn queries(code: u8, file: &File) -> Vec<Frame> {
             _ => frame(7, NAME, symbol, ordinal),
         }
     };
-    (0..FRAMES).map(|_| one(&mut dice)).collect()
+    Round { before: vec![], frames: (0..FRAMES).map(|_| one(&mut dice)).collect() }
 }
 
 /// Deletes at random places, and the inserts that follow them: the file shrinks by `many` marks and grows again.
-fn edits(file: &File, many: usize) -> (Vec<Frame>, Vec<Frame>) {
-    let mut dice = Dice::new(many as u64);
+fn edits(file: &File, many: usize, seed: u64) -> [Vec<Frame>; 2] {
+    let mut dice = Dice::new(seed);
     let length = file.marks.len();
     let deletes = (0..many).map(|k| frame(DELETE, NAME, 0, dice.between(1, length - k))).collect();
     let inserts =
         (0..many).map(|k| frame(INSERT, NAME, usual_mark(&mut dice), dice.between(1, length - many + k + 1))).collect();
-    (deletes, inserts)
+    [deletes, inserts]
 }
 
 fn number(frame: &Frame) -> usize {
@@ -129,36 +156,44 @@ fn indexed(contestant: Contestant, file: &File) -> Index {
 }
 
 /// The calls of a try are few where each has one frame, since each checks the pool.
-fn time_index(contestant: Contestant, file: &File, before: &[Frame], frames: &[Frame], batch: usize) -> f64 {
-    let mut ready = indexed(contestant, file);
-    ready.run(before, 1_024);
-    let frames = &frames[..frames.len().min(CALLS * batch)];
-    best(
-        frames.len(),
-        || ready.clone(),
-        |index| {
-            index.run(frames, batch);
-            assert!(index.all_well(frames.len().min(batch)), "no frame of the benchmark is refused");
-        },
-    )
+fn try_index<'a>(contestant: Contestant, file: &File, rounds: &'a [Round], batch: usize) -> Try<'a> {
+    let filled = indexed(contestant, file);
+    let after = |round: &Round| {
+        let mut index = filled.clone();
+        index.run(&round.before, 1_024);
+        index
+    };
+    let ready: Vec<Index> = rounds.iter().map(after).collect();
+    let many = rounds[0].frames.len().min(CALLS * batch);
+    let work = move |index: &mut Index, round: usize| {
+        index.run(&rounds[round].frames[..many], batch);
+        assert!(index.all_well(many.min(batch)), "no frame of the benchmark is refused");
+    };
+    one_try(many, move |round| ready[round].clone(), work)
 }
 
-fn time_flat(file: &File, before: &[Frame], frames: &[Frame]) -> f64 {
-    let prepare = || {
+fn try_flat<'a>(file: &'a File, rounds: &'a [Round]) -> Try<'a> {
+    let prepare = |round: usize| {
         let mut flat = Flat::of(&file.marks);
-        before.iter().for_each(|frame| _ = on_flat(&mut flat, frame));
+        rounds[round].before.iter().for_each(|frame| _ = on_flat(&mut flat, frame));
         flat
     };
-    best(frames.len(), prepare, |flat| frames.iter().for_each(|frame| _ = black_box(on_flat(flat, frame))))
+    let work = |flat: &mut Flat, round: usize| {
+        rounds[round].frames.iter().for_each(|frame| _ = black_box(on_flat(flat, frame)))
+    };
+    one_try(rounds[0].frames.len(), prepare, work)
 }
 
-fn time_rope(file: &File, before: &[Frame], frames: &[Frame]) -> f64 {
-    let prepare = || {
+fn try_rope<'a>(file: &'a File, rounds: &'a [Round]) -> Try<'a> {
+    let prepare = |round: usize| {
         let mut rope = Rope::of(&file.marks);
-        before.iter().for_each(|frame| _ = on_rope(&mut rope, frame));
+        rounds[round].before.iter().for_each(|frame| _ = on_rope(&mut rope, frame));
         rope
     };
-    best(frames.len(), prepare, |rope| frames.iter().for_each(|frame| _ = black_box(on_rope(rope, frame))))
+    let work = |rope: &mut Rope, round: usize| {
+        rounds[round].frames.iter().for_each(|frame| _ = black_box(on_rope(rope, frame)))
+    };
+    one_try(rounds[0].frames.len(), prepare, work)
 }
 
 /// The library and the twin give the same answers, before their times are compared.
@@ -172,12 +207,16 @@ fn same_answers(file: &File, frames: &[Frame]) {
 }
 
 /// One line of the table. Edits of a short file are fewer than the largest batch: the line tells how many a call had.
-fn row(operation: &str, file: &File, before: &[Frame], frames: &[Frame], batch: usize) {
-    let batch = batch.min(frames.len());
-    let library = time_index(LIBRARY, file, before, frames, batch);
-    let twin = time_index(TWIN, file, before, frames, batch);
-    let flat = time_flat(file, before, frames);
-    let rope = if operation == "insert" || operation == "delete" { time_rope(file, before, frames) } else { f64::NAN };
+fn row(operation: &str, file: &File, rounds: &[Round], batch: usize) {
+    let batch = batch.min(rounds[0].frames.len());
+    let edits = operation == "insert" || operation == "delete";
+    let [library, twin, flat, rope] = best([
+        try_index(LIBRARY, file, rounds, batch),
+        try_index(TWIN, file, rounds, batch),
+        try_flat(file, rounds),
+        if edits { try_rope(file, rounds) } else { Box::new(|_| f64::NAN) },
+    ]);
+    let rope = if edits { rope } else { f64::NAN };
     let shown = |value: f64, digits: usize| if value.is_nan() { "-".to_string() } else { format!("{value:.digits$}") };
     println!(
         "{operation:<8} {:>6} {batch:>6} {:>10} {:>10} {:>8} {:>10} {:>8} {:>10} {:>8}",
@@ -200,17 +239,27 @@ fn operations() {
     for length in LENGTHS {
         let file = some_file(length, NAME, length.div_ceil(24), usual_mark);
         for (operation, code) in [("access", 5), ("rank", 6), ("select", 7)] {
-            let frames = queries(code, &file);
-            same_answers(&file, &frames);
-            BATCHES.iter().for_each(|&batch| row(operation, &file, &[], &frames, batch));
+            let rounds = rounds(|seed| queries(code, &file, seed));
+            same_answers(&file, &rounds[0].frames);
+            BATCHES.iter().for_each(|&batch| row(operation, &file, &rounds, batch));
         }
-        let (deletes, inserts) = edits(&file, FRAMES.min(length / 4));
-        same_answers(&file, &[&deletes[..], &inserts].concat());
+        let many = FRAMES.min(length / 4);
+        let edits = |seed| edits(&file, many, seed);
+        same_answers(&file, &edits(0).concat());
+        let deletes = rounds(|seed| Round { before: vec![], frames: edits(seed)[0].clone() });
+        let inserts = rounds(|seed| {
+            let [before, frames] = edits(seed);
+            Round { before, frames }
+        });
         for batch in BATCHES {
-            row("insert", &file, &deletes, &inserts, batch);
-            row("delete", &file, &[], &deletes, batch);
+            row("insert", &file, &inserts, batch);
+            row("delete", &file, &deletes, batch);
         }
     }
+}
+
+fn rounds(one: impl Fn(u64) -> Round) -> Vec<Round> {
+    (0..ROUNDS as u64).map(one).collect()
 }
 
 /// The check of a full pool: a call without frames, beside a plain sum of the bytes of all blocks held.
@@ -229,14 +278,15 @@ fn checks() {
                 files.iter().for_each(|file| index.run(&file.frames, 1_024));
                 index
             };
-            let time = |contestant| {
+            let checked = |contestant| {
                 let ready = filled(contestant);
-                best(CALLS, || ready.clone(), |index| (0..CALLS).for_each(|_| index.call(&[])))
+                one_try(CALLS, move |_| ready.clone(), |index, _| (0..CALLS).for_each(|_| index.call(&[])))
             };
-            let (library, twin) = (time(LIBRARY), time(TWIN));
             let ready = filled(TWIN);
             let blocks = held(ready.pool());
-            let sum = best(CALLS, || (), |_| (0..CALLS).for_each(|_| _ = black_box(plain_sum(black_box(blocks)))));
+            let summed =
+                one_try(CALLS, |_| (), |_, _| (0..CALLS).for_each(|_| _ = black_box(plain_sum(black_box(blocks)))));
+            let [library, twin, sum] = best([checked(LIBRARY), checked(TWIN), summed]);
             println!(
                 "{label:<8} {:>6} {names:>6} {library:>10.0} {twin:>10.0} {:>8.2} {sum:>10.0} {:>8.2}",
                 files.iter().map(|file| file.marks.len()).sum::<usize>(),

@@ -60,7 +60,7 @@ module _ {at many : ℕ} {p q : List ℕ} (o : Outside at many p q) where
 pub cut-moved : {from to many : ℕ} {p q : List ℕ} → Moved from to many p q → from + many ≤ length p → to + many ≤ length p
     → take many (drop to q) ≡ take many (drop from p)
 cut-moved {from} {to} {many} {p} {q} m here there =
-    cut-equal p q from to many here (omega (arith, m .same .long)) (m .moved)
+    cut-equal p q from to many here (omega (arith, m .same .long)) (m .copied)
 
 -- a stretch cut in two
 pub cut-two : (p : List ℕ) (a n m : ℕ) → take (n + m) (drop a p) ≡ take n (drop a p) ++ take m (drop (a + n) p)

@@ -2,17 +2,15 @@
 -- Assumes nothing.
 use mathlib.Core.Path.{_≡_, refl, _∙_}
 use mathlib.Core.List.{List}
-use Prim.Native.Nat.{ℕ, zero, suc, _+_, _-_, _/_, _%_, _≤_, _<_}
-use native.Mathlib.Nat.{add-zero, sub-zero}
+use Prim.Native.Nat.{ℕ, _+_, _/_, _%_, _≤_, _<_}
 use native.Mathlib.Omega.{arith}
 use borrow.Author.Count.{below-none, below-more}
 use lib.ListN.{length, set, length-set}
 use lib.Seq.{getD-set-same, getD-set-other}
 use Rattle.geometry.specs.Layout.{wordSize}
-use Rattle.shape.proofs.Choice.{by-leb}
 use Rattle.pool.specs.Bytes.{byte}
 use Rattle.pool.specs.Changes.{Outside}
-use Rattle.pool.specs.Words.{PutByte, PutWord, Moved, Cleared}
+use Rattle.pool.specs.Words.{PutByte, PutWord, Copied, Moved, Cleared}
 use Rattle.pool.proofs.Words.{word-is}
 use Rattle.pool.proofs.Changed.{outside-none, outside-then, outside-wider}
 
@@ -53,55 +51,39 @@ module _ (at i : ℕ) (p q : List ℕ) (value : ℕ) (room : at + i < length q) 
       (λ j h. put-one q (at + i) value room .same .low (at + j) (omega arith) ∙ each j h)
       (put-one q (at + i) value room .put ∙ here)
 
--- bytes moved towards the front
-module _ (from to many : ℕ) (p : List ℕ) where
-  pub down-none : Moved from to 0 p p
-  down-none = record { same = outside-none to 0 p; moved = below-none (λ j. byte p (to + j) ≡ byte p (from + j)) }
+-- bytes copied from others, which are as they were
+module _ (source : List ℕ) (from to many : ℕ) (p : List ℕ) where
+  pub copy-none : Copied source from to 0 p p
+  copy-none = record { same = outside-none to 0 p; copied = below-none (λ j. byte p (to + j) ≡ byte source (from + j)) }
 
-  pub down-more : (i : ℕ) (q : List ℕ) → to ≤ from → from + many ≤ length p → i < many → Moved from to i p q
-      → Moved from to (i + 1) p (set q (to + i) (byte q (from + i)))
-  down-more i q front room more m =
-      let inside : to + i < length q = omega (arith, m .same .long) in
+  -- one more, told by its value
+  next : (i value : ℕ) (q : List ℕ) → to + i < length q → value ≡ byte source (from + i) → Copied source from to i p q
+      → Copied source from to (i + 1) p (set q (to + i) value)
+  next i value q inside e c =
       record {
-        same = grow to i p q (byte q (from + i)) inside (m .same);
-        moved =
-            grow-each to i p q (byte q (from + i)) inside (m .same) (λ j. byte p (from + j)) (m .moved)
-            (m .same .high (from + i) (omega arith));
+        same = grow to i p q value inside (c .same);
+        copied = grow-each to i p q value inside (c .same) (λ j. byte source (from + j)) (c .copied) e;
       }
 
--- of bytes moved towards the back, all but the first `left` are there
-pub record Backward (from to many left : ℕ) (p q : List ℕ) : Type 0 where
-  pub few : left ≤ many
-  pub same : Outside (to + left) (many - left) p q
-  pub moved : (j : ℕ) → left ≤ j → j < many → byte q (to + j) ≡ byte p (from + j)
+  pub copy-more : (i : ℕ) (q : List ℕ) → to + many ≤ length p → i < many → Copied source from to i p q
+      → Copied source from to (i + 1) p (set q (to + i) (byte source (from + i)))
+  copy-more i q room more c = next i (byte source (from + i)) q (omega (arith, c .same .long)) refl c
 
-module _ (from to many : ℕ) (p : List ℕ) where
-  pub up-none : Backward from to many many p p
-  up-none = record { few = omega arith; same = outside-none (to + many) (many - many) p; moved = λ j h k. absurd (omega arith) }
+  -- a count that has reached its end is the end
+  pub copy-all : (i : ℕ) (q : List ℕ) → Copied source from to i p q → i ≤ many → many ≤ i → Copied source from to many p q
+  copy-all i q c few end = let e : many ≡ i = omega arith in rw e c
 
-  pub up-more : (left : ℕ) (q : List ℕ) → from ≤ to → to + many ≤ length p → 0 < left → Backward from to many left p q
-      → Backward from to many (left - 1) p (set q (to + (left - 1)) (byte q (from + (left - 1))))
-  up-more left q back room some m =
-      let value = byte q (from + (left - 1)) in
-      let one : PutByte (to + (left - 1)) value q (set q (to + (left - 1)) value) =
-      put-one q (to + (left - 1)) value (omega (arith, m .same .long, m .few))
-      in
-      record {
-        few = omega arith;
-        same =
-            outside-then (outside-wider (to + (left - 1)) (many - (left - 1)) (omega arith) (omega arith) (m .same))
-            (outside-wider (to + (left - 1)) (many - (left - 1)) (omega arith) (omega arith) (one .same));
-        moved = λ j h h'.
-            by-leb {A = Unit {0}} (λ _. byte (set q (to + (left - 1)) value) (to + j) ≡ byte p (from + j)) left j tt tt
-            (λ past. one .same .high (to + j) (omega arith) ∙ m .moved j past h')
-            (λ (here : j < left).
-            let e : j ≡ left - 1 = omega arith in
-            rw e (one .put ∙ m .same .low (from + (left - 1)) (omega arith)));
-      }
+-- bytes moved towards the front: those that are to come are as they were
+pub down-more : (from to many i : ℕ) (p q : List ℕ) → to ≤ from → from + many ≤ length p → i < many → Moved from to i p q
+    → Moved from to (i + 1) p (set q (to + i) (byte q (from + i)))
+down-more from to many i p q front room more m =
+    next p from to many p i (byte q (from + i)) q (omega (arith, m .same .long)) (m .same .high (from + i) (omega arith)) m
 
-  pub up-all : (left : ℕ) (q : List ℕ) → Backward from to many left p q → left ≤ 0 → Moved from to many p q
-  up-all zero q m none = record { same = rw (add-zero, sub-zero) at (m .same); moved = λ j h. m .moved j (omega arith) h }
-  up-all (suc left) q m none = absurd (omega arith)
+-- bytes moved towards the back, set aside in between
+pub moved-aside : (from to many : ℕ) (p aside aside' q : List ℕ) → Copied p from 0 many aside aside' → Copied aside' 0 to many p q
+    → Moved from to many p q
+moved-aside from to many p aside aside' q there back =
+    record { same = back .same; copied = λ j h. back .copied j h ∙ there .copied j h }
 
 -- bytes cleared
 module _ (at many : ℕ) (p : List ℕ) where
@@ -117,8 +99,5 @@ module _ (at many : ℕ) (p : List ℕ) where
       }
 
 -- a count that has reached its end is the end
-pub down-all : (from to many i : ℕ) (p q : List ℕ) → Moved from to i p q → i ≤ many → many ≤ i → Moved from to many p q
-down-all from to many i p q m few end = let e : many ≡ i = omega arith in rw e m
-
 pub clear-all : (at many i : ℕ) (p q : List ℕ) → Cleared at i p q → i ≤ many → many ≤ i → Cleared at many p q
 clear-all at many i p q m few end = let e : many ≡ i = omega arith in rw e m

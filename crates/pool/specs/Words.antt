@@ -35,10 +35,14 @@ pub record PutWord (at value : ℕ) (before after : List ℕ) : Type 0 where
   pub same : Outside at wordSize before after
   pub put : word after at ≡ value
 
--- so many bytes from an address on are those that stood from another on; the bytes outside them are as before
-pub record Moved (from to many : ℕ) (before after : List ℕ) : Type 0 where
+-- so many bytes from an address on are those of other bytes from an address on; the bytes outside them are as before
+pub record Copied (source : List ℕ) (from to many : ℕ) (before after : List ℕ) : Type 0 where
   pub same : Outside to many before after
-  pub moved : (j : ℕ) → j < many → byte after (to + j) ≡ byte before (from + j)
+  pub copied : (j : ℕ) → j < many → byte after (to + j) ≡ byte source (from + j)
+
+-- so many bytes from an address on are those that stood from another on
+abbrev pub Moved : ℕ → ℕ → ℕ → List ℕ → List ℕ → Type 0
+Moved from to many before after = Copied before from to many before after
 
 -- so many bytes from an address on are 0, and the others are as before
 pub record Cleared (at many : ℕ) (before after : List ℕ) : Type 0 where

@@ -2,7 +2,9 @@
 ghost use Prim.Native.Nat.{_+_, _≤_, _<_};
 ghost use lib.ListN.{length};
 ghost use Rattle.geometry.specs.Layout.{wordSize};
-ghost use Rattle.pool.specs.Words.{wordLimit, Wide, WordAt, PutByte, PutWord, Moved, Cleared};
+ghost use Rattle.geometry.specs.Limits.{blockSize};
+ghost use Rattle.pool.specs.Words.{wordLimit, Wide, WordAt, PutByte, PutWord, Copied, Moved, Cleared};
+use geometry::Record;
 
 // A byte, as a number to reckon with.
 pub fn wide(x: u8) -> usize
@@ -36,9 +38,9 @@ pub fn put_word(pool: &mut [u8], at: usize, value: usize)
     put_byte(pool, at + 1, (value / 256) as u8);
 }
 
-// Moves bytes to where they may overlap the bytes that they were.
+// Moves bytes, at most a block's, to where they may overlap the bytes that they were.
 pub fn move_bytes(pool: &mut [u8], from: usize, to: usize, many: usize)
-    requires { ⌜ (from + many ≤ length (now pool)) × (to + many ≤ length (now pool)) ⌝ }
+    requires { ⌜ (from + many ≤ length (now pool)) × (to + many ≤ length (now pool)) × (many ≤ blockSize) ⌝ }
     ensures { λ _. ⌜ Moved from to many (now (pool .entry)) (now (pool .exit)) ⌝ }
 {
     if to <= from {
@@ -60,15 +62,25 @@ fn move_down(pool: &mut [u8], from: usize, to: usize, many: usize)
     }
 }
 
-// Moves bytes towards the back, the last of them first.
+// Moves bytes towards the back. They are set aside first, as the compiler makes a quick copy of a loop that goes forward only.
 fn move_up(pool: &mut [u8], from: usize, to: usize, many: usize)
-    requires { ⌜ (from ≤ to) × (to + many ≤ length (now pool)) ⌝ }
+    requires { ⌜ (from + many ≤ length (now pool)) × (to + many ≤ length (now pool)) × (many ≤ blockSize) ⌝ }
     ensures { λ _. ⌜ Moved from to many (now (pool .entry)) (now (pool .exit)) ⌝ }
 {
-    let mut left = many;
-    while left > 0 {
-        left -= 1;
-        pool[to + left] = pool[from + left];
+    let mut aside = [0; Record::BLOCK_SIZE];
+    copy_bytes(pool, from, &mut aside, 0, many);
+    copy_bytes(&aside, 0, pool, to, many);
+}
+
+// Copies bytes of one buffer to another.
+fn copy_bytes(source: &[u8], from: usize, target: &mut [u8], to: usize, many: usize)
+    requires { ⌜ (from + many ≤ length (now source)) × (to + many ≤ length (now target)) ⌝ }
+    ensures { λ _. ⌜ Copied (now (source .entry)) from to many (now (target .entry)) (now (target .exit)) ⌝ }
+{
+    let mut i = 0;
+    while i < many {
+        target[to + i] = source[from + i];
+        i += 1;
     }
 }
 

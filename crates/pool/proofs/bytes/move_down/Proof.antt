@@ -4,7 +4,7 @@ use Prim.Native.Nat.{_+_, _-_, _≤_}
 use borrow.Author.Needs.{needs}
 use lib.ListN.{length}
 use Rattle.pool.specs.Words.{Moved}
-use Rattle.pool.proofs.Moves.{down-none, down-more, down-all}
+use Rattle.pool.proofs.Moves.{copy-none, copy-all, down-more}
 use Rattle.pool.proofs.bytes.move_down.Statement.{statement}
 use Rattle.pool.proofs.bytes.move_down.Tie as tie
 
@@ -15,7 +15,7 @@ abbrev μ-loop : tie.MeasureT-loop
 μ-loop pool₀ from to many i₀ pool i = many - i
 
 loop-holds : tie.Need-loop-holds Inv-loop μ-loop
-loop-holds c = (search needs, search needs, search needs, search down-none)
+loop-holds c = (search needs, search needs, search needs, search copy-none)
 
 add-pool : tie.Need-add-pool Inv-loop μ-loop
 add-pool c = search needs
@@ -42,7 +42,7 @@ same-length : tie.Need-same-length Inv-loop μ-loop
 same-length c = search needs
 
 returns : tie.Need-returns Inv-loop μ-loop
-returns c = search down-all
+returns c = search copy-all
 
 pub move-down-spec : {M : Type 1} → statement M
 move-down-spec =
