@@ -1,21 +1,13 @@
 //! The first program of document 01 over the C interface, for trying tests of it before the proved one is there.
 
+#[path = "../interface.rs"]
+mod interface;
+
+use interface::{forfochry_format, forfochry_run};
 use std::io::{Read, Write, stdin, stdout};
 
 const POOL_BYTES: usize = 16_384;
 const BAD_LINE: [u8; 8] = [0xFF, 0, 0, 0, 0, 0, 0, 0];
-
-unsafe extern "C" {
-    fn forfochry_format(pool: *mut u8, pool_len: usize) -> u32;
-    fn forfochry_run(
-        pool: *mut u8,
-        pool_len: usize,
-        commands: *const u8,
-        commands_len: usize,
-        answers: *mut u8,
-        answers_len: usize,
-    ) -> u64;
-}
 
 fn frame(line: &[u8]) -> Option<[u8; 8]> {
     let digits: Vec<u8> = line.iter().map_while(|&byte| (byte as char).to_digit(16)).map(|d| d as u8).collect();
