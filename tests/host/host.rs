@@ -40,7 +40,7 @@ const USAGE: &str = "usage: host [--list | [--without-model] [TRIAL ...]]";
 
 /// Runs the trials named, or all. `--list` prints their names. `--without-model` leaves out what every trial has from the model, the
 /// comparison of answers and of what pools mean, so that what is left is what a trial compares by itself.
-fn main() -> ExitCode {
+pub fn main() -> ExitCode {
     let (flags, named): (Vec<String>, Vec<String>) = std::env::args().skip(1).partition(|word| word.starts_with("--"));
     let known = |name: &String| TRIALS.iter().any(|(trial, _)| trial == name);
     match flags.iter().map(String::as_str).collect::<Vec<_>>()[..] {

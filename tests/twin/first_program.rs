@@ -26,7 +26,7 @@ fn answer(pool: &mut [u8], line: &[u8]) -> String {
     answer.iter().map(|byte| format!("{byte:02X}")).collect::<String>() + "\n"
 }
 
-fn main() -> std::io::Result<()> {
+pub fn main() -> std::io::Result<()> {
     let mut pool = vec![0; POOL_BYTES];
     // SAFETY: one buffer of the length told.
     unsafe { forfochry_format(pool.as_mut_ptr(), pool.len()) };
