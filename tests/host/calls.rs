@@ -63,7 +63,7 @@ pub fn empty_buffers() -> Outcome<String> {
                 (empty, other, empty, 101),
                 (empty, &question, other, 101),
                 (&sound, empty, other, 0),
-                (&sound, empty, &Lent::filled(8, 9), 0),
+                (&sound, empty, &Lent::filled(5, 9), 0),
                 (&sound, &question, empty, 103),
                 (&Lent::filled(640, 0), empty, other, 104),
             ] {
