@@ -43,7 +43,17 @@ fn ask(pool: &mut [u8], code: u8, symbol: u8, number: u32) -> Result<u32, String
     };
     match (outcome >> 32, answer[0]) {
         (0, 0) => Ok(u32::from_be_bytes([answer[4], answer[5], answer[6], answer[7]])),
-        (call, status) => Err(format!("call {call}, status {status}")),
+        (call, status) => Err(format!(
+            "command {code} is refused: call {call}, status {status}; forfochry.h says what they mean"
+        )),
+    }
+}
+
+/// A line without its line feed, nor the carriage return just before one.
+fn without_end(line: &[u8]) -> &[u8] {
+    match line.strip_suffix(b"\n") {
+        Some(line) => line.strip_suffix(b"\r").unwrap_or(line),
+        None => line,
     }
 }
 
@@ -54,11 +64,7 @@ fn session(text: &[u8]) -> Result<(), String> {
         return Err("the pool's length isn't allowed".to_string());
     }
     ask(&mut pool, OPEN, 16, 508)?;
-    let text = text.strip_suffix(b"\n").unwrap_or(text);
-    let lines: Vec<&[u8]> = text
-        .split(|&byte| byte == b'\n')
-        .map(|line| line.strip_suffix(b"\r").unwrap_or(line))
-        .collect();
+    let lines: Vec<&[u8]> = text.split_inclusive(|&byte| byte == b'\n').map(without_end).collect();
     for (k, line) in lines.iter().enumerate() {
         ask(&mut pool, INSERT, mark(line), k as u32 + 1)?;
     }
@@ -72,11 +78,12 @@ fn session(text: &[u8]) -> Result<(), String> {
 }
 
 fn main() -> ExitCode {
-    let Some(text) = std::env::args().nth(1).and_then(|path| std::fs::read(path).ok()) else {
-        eprintln!("first_day: give the path of a fixed-form Fortran file");
-        return ExitCode::FAILURE;
-    };
-    match session(&text) {
+    let text = std::env::args().nth(1).ok_or("none is given".to_string());
+    let text = text.and_then(|path| std::fs::read(path).map_err(|why| why.to_string()));
+    let told = text
+        .map_err(|why| format!("give the path of a fixed-form Fortran file ({why})"))
+        .and_then(|text| session(&text));
+    match told {
         Ok(()) => ExitCode::SUCCESS,
         Err(message) => {
             eprintln!("first_day: {message}");

@@ -4,20 +4,23 @@ set -euo pipefail
 top=$(cd "$(dirname "$0")/.." && pwd)
 file=$(realpath -m "${1:-$top/examples/melt.f}")
 cd "$top"
-[ -r "$file" ] || { echo "first_day: $file can't be read; give the path of a fixed-form Fortran file"; exit 1; }
+fail() { echo "first_day: $1" >&2; exit 1; }
+[ -f "$file" ] && [ -r "$file" ] || fail "$file can't be read; give the path of a fixed-form Fortran file"
+command -v rt >/dev/null || fail "rt isn't found; put the Rattle kit's command on the PATH"
 mkdir -p target
-rt check marks answers >target/first_day.log 2>&1 || { cat target/first_day.log; echo "first_day: the programs aren't proved; the lines above say why"; exit 1; }
+[ -x target/bin/answers ] || echo "first_day: the two programs are proved first, which takes some minutes" >&2
+rt check marks answers >target/first_day.log 2>&1 || { tail -n 40 target/first_day.log >&2; fail "the programs aren't proved, and the lines above say why"; }
 marks=$(tests/emulated/program.sh target/bin/marks)
 answers=$(tests/emulated/program.sh target/bin/answers)
 
 lines=$("$marks" <"$file" | wc -l)
 shares=$(((lines + 23) / 24 + 1))
-[ "$shares" -le 124 ] || { echo "first_day: $file has $lines lines; the program's pool has room for 2,952"; exit 1; }
+[ "$shares" -le 124 ] || fail "$file has $lines lines or more, and the program's pool has room for 2,952; take a shorter file"
 
 # One frame: code, name, symbol, a zero byte, number.
 frame() { printf '%02X%02X%02X00%08X\n' "$@"; }
 # The value of an answer, whose status must be 0.
-value() { [ "${1:0:2}" = 00 ] || { echo "first_day: status ${1:0:2}" >&2; exit 1; }; echo $((16#${1:8:8})); }
+value() { [ "${1:0:2}" = 00 ] || fail "the answer $1 has status ${1:0:2}, where 00 was to come"; echo $((16#${1:8:8})); }
 
 coproc INDEX { "$answers"; }
 ask() { frame "$@" >&"${INDEX[1]}"; read -r answer <&"${INDEX[0]}"; }

@@ -2,7 +2,7 @@
 # Builds the examples for C and Rust over the library for hosts, runs each on examples/melt.f and compares what it writes.
 set -euo pipefail
 cd "$(dirname "$0")/.."
-[ -f target/staticlib/libforfochry.a ] || { echo "examples: the library isn't there; run: rt staticlib forfochry"; exit 1; }
+for tool in cc rustc; do command -v $tool >/dev/null || { echo "examples: $tool isn't found; they need a C compiler and rustc" >&2; exit 1; }; done
 archive=$(tests/emulated/library.sh)
 built=target/examples
 mkdir -p "$built"

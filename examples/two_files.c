@@ -18,7 +18,8 @@ static uint32_t ask(uint8_t code, uint8_t name, uint8_t symbol, uint32_t number)
     uint8_t answer[8];
     uint64_t outcome = forfochry_run(pool, sizeof pool, frame, sizeof frame, answer, sizeof answer);
     if (outcome >> 32 != 0 || answer[0] != 0) {
-        fprintf(stderr, "two_files: call %u, status %u\n", (unsigned)(outcome >> 32), answer[0]);
+        fprintf(stderr, "two_files: command %u is refused: call %u, status %u; forfochry.h says what they mean\n", code,
+                forfochry_status(outcome), outcome >> 32 != 0 ? 0 : answer[0]);
         exit(1);
     }
     return (uint32_t)answer[4] << 24 | (uint32_t)answer[5] << 16 | (uint32_t)answer[6] << 8 | answer[7];

@@ -8,11 +8,10 @@ Nothing here is shared with the code under test: a pool is built from docs/LAYOU
 A case in stdin is a head of 64 bytes and then the pool's bytes up to the last that isn't 0. The head is the pool's length and how many
 of its bytes follow (3 bytes each, low byte first), and a label padded with blanks. A line of stdout is the label and the verdict.
 """
-import os
 import sys
 
-TOP = os.path.dirname(os.path.dirname(os.path.abspath(__file__)))
-CRATE = os.path.join(TOP, "crates", "sound_cases")
+import stored
+
 HEAD, NUMBER, SHARES = 64, 3, 10
 
 
@@ -194,20 +193,5 @@ def built():
     return {"stdin": stdin, "stdout": stdout.encode()}
 
 
-def main(words):
-    if words not in ([], ["--write"]):
-        sys.exit(__doc__)
-    for file, content in built().items():
-        path = os.path.join(CRATE, file)
-        if words:
-            with open(path, "wb") as f:
-                f.write(content)
-            continue
-        with open(path, "rb") as f:
-            if f.read() != content:
-                sys.exit(f"tests/damaged_pools.py: crates/sound_cases/{file} isn't what --write would write")
-    if not words:
-        print("tests/damaged_pools.py: the stored files are as they should be")
-
-
-main(sys.argv[1:])
+stored.hold("sound_cases", built(), sys.argv[1:], __doc__)
+print("tests/damaged_pools.py: the stored files are as they should be")

@@ -4,11 +4,9 @@
     tests/query_pool.py --write    write crates/query_cases/stdin and stdout
     tests/query_pool.py            exit 1 unless the stored files are what would be written
 """
-import os
 import sys
 
-TOP = os.path.dirname(os.path.dirname(os.path.abspath(__file__)))
-CRATE = os.path.join(TOP, "crates", "query_cases")
+import stored
 
 POOL = 8192
 DIRECTORY = 512
@@ -102,20 +100,5 @@ def built():
     return {"stdin": stdin, "stdout": out}
 
 
-def main(words):
-    if words not in ([], ["--write"]):
-        sys.exit(__doc__)
-    for file, content in built().items():
-        path = os.path.join(CRATE, file)
-        if words:
-            with open(path, "wb") as f:
-                f.write(content)
-            continue
-        with open(path, "rb") as f:
-            if f.read() != content:
-                sys.exit(f"tests/query_pool.py: crates/query_cases/{file} isn't what --write would write")
-    if not words:
-        print("tests/query_pool.py: the stored files are as they should be")
-
-
-main(sys.argv[1:])
+stored.hold("query_cases", built(), sys.argv[1:], __doc__)
+print("tests/query_pool.py: the stored files are as they should be")

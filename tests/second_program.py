@@ -5,16 +5,14 @@
     tests/second_program.py            run target/bin/marks on the table's cases, at the limit of 12,192 lines, on long lines and on
                                        random files, each handed over in pieces of random sizes; exit 1 at the first difference
 """
-import functools
-import os
 import random
-import subprocess
 import sys
 
-TOP = os.path.dirname(os.path.dirname(os.path.abspath(__file__)))
-PROGRAM = os.path.join(TOP, "target", "bin", "marks")
-HERE = os.path.join(TOP, "tests", "emulated", "program.sh")
+import stored
+from program import Difference, Talk, compare, fail, here, pieces
+
 LIMIT = 12192
+SIZES = [1, 2, 3, 71, 72, 73, 4096, 65536]
 
 # A line with its line end, and the mark that document 01 gives it. One table for both sides of each rule.
 CASES = [
@@ -122,32 +120,6 @@ def frames(marks):
     return b"".join(b"0300%02X00%08X\n" % (m, k + 1) for k, m in enumerate(marks[:LIMIT]))
 
 
-@functools.cache
-def runs_here():
-    """The program, or where this machine can't run it a script that runs it under the kit's emulator."""
-    return subprocess.check_output([HERE, PROGRAM], text=True).strip()
-
-
-def run(data, chance):
-    """What the program writes for this input, handed over in pieces of random sizes."""
-    program = subprocess.Popen([runs_here()], stdin=subprocess.PIPE, stdout=subprocess.PIPE)
-    if os.fork() == 0:
-        program.stdout.close()
-        at = 0
-        while at < len(data):
-            size = chance.choice([1, 2, 3, 71, 72, 73, 4096, 65536])
-            program.stdin.write(data[at : at + size])
-            program.stdin.flush()
-            at += size
-        program.stdin.close()
-        os._exit(0)
-    program.stdin.close()
-    written = program.stdout.read()
-    program.wait()
-    os.wait()
-    return written
-
-
 def random_line(chance):
     """A line that is near one of the rules' edges."""
     start = chance.choice([b"", b"     ", b"      ", b"  10  ", b"     1", b"C", b"*", b" " * chance.randrange(75)])
@@ -162,31 +134,28 @@ def random_file(chance):
     return whole + random_line(chance) if chance.random() < 0.5 else whole
 
 
+def inputs(table, chance):
+    """The table's lines, the limit of lines, long lines, and random files."""
+    yield from (table, b"", b"\n", b"X", b"\r", b"\n" * (LIMIT - 1) + b"X", b"      COMMON\n" * LIMIT + b"X", b"\n" * (LIMIT + 9))
+    yield from (b"      EQUIVALENCE(" + b"A" * 200000 + b"\r\n\n", b"\r" * 70000 + b"\n")
+    yield from (random_file(chance) for _ in range(200))
+
+
 def main(words):
-    data = b"".join(line for line, _ in CASES)
+    table = b"".join(line for line, _ in CASES)
     expected = frames([m for _, m in CASES])
-    if words == ["--write"]:
-        for name, text in (("stdin", data), ("stdout", expected)):
-            with open(os.path.join(TOP, "crates", "marks", name), "wb") as out:
-                out.write(text)
-        return
-    for name, text in (("stdin", data), ("stdout", expected)):
-        with open(os.path.join(TOP, "crates", "marks", name), "rb") as stored:
-            if stored.read() != text:
-                sys.exit(f"crates/marks/{name} isn't what the table of cases says: write it anew with --write")
-    chance = random.Random(1977)
-    inputs = [data, b"", b"\n", b"X", b"\r", b"\n" * (LIMIT - 1) + b"X", b"      COMMON\n" * LIMIT + b"X", b"\n" * (LIMIT + 9)]
-    inputs += [b"      EQUIVALENCE(" + b"A" * 200000 + b"\r\n\n", b"\r" * 70000 + b"\n"]
-    inputs += [random_file(chance) for _ in range(200)]
-    for number, text in enumerate(inputs):
-        by_rules = frames([mark(line) for line in lines(text)])
-        if number == 0 and by_rules != expected:
-            sys.exit("the table of cases and the rules as written here disagree")
-        if run(text, chance) != by_rules:
-            with open("differs", "wb") as out:
-                out.write(text)
-            sys.exit(f"input {number} is answered otherwise than by the rules: it is in the file 'differs'")
-    print(f"second program: {len(inputs)} inputs answered as the rules say")
+    stored.hold("marks", {"stdin": table, "stdout": expected}, words, __doc__)
+    if frames([mark(line) for line in lines(table)]) != expected:
+        sys.exit("second program: the table of cases and the rules as written here disagree")
+    program, chance, tried = here("marks"), random.Random(1977), 0
+    try:
+        for data in inputs(table, chance):
+            by_rules = frames([mark(line) for line in lines(data)])
+            compare(f"input {tried}", data, by_rules, Talk(program).end(pieces(data, SIZES, chance)))
+            tried += 1
+    except Difference as difference:
+        fail("second program", difference)
+    print(f"second program: {tried} inputs answered as the rules say")
 
 
 main(sys.argv[1:])

@@ -3,7 +3,8 @@
 # under the kit's emulator. tests/emulated/library.sh [ARCHIVE]
 set -euo pipefail
 here=$(cd "$(dirname "$0")" && pwd)
-archive=$(realpath "${1:-$here/../../target/staticlib/libforfochry.a}")
+archive=$(realpath -m "${1:-$here/../../target/staticlib/libforfochry.a}")
+[ -f "$archive" ] || { echo "$archive isn't there; make the library with: rt staticlib forfochry" >&2; exit 1; }
 if [ "$(uname -m)" = x86_64 ]; then
   echo "$archive"
   exit

@@ -2,7 +2,8 @@
 # Prints the path of a file that runs a program of this repository here: the program itself on x86-64, elsewhere a script that runs it
 # under the kit's emulator. tests/emulated/program.sh target/bin/NAME
 set -euo pipefail
-program=$(realpath "$1")
+program=$(realpath -m "$1")
+[ -x "$program" ] || { echo "$program isn't there; make it with: rt check $(basename "$program")" >&2; exit 1; }
 if [ "$(uname -m)" = x86_64 ]; then
   echo "$program"
   exit

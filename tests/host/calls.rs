@@ -46,6 +46,38 @@ pub fn other_lengths() -> Outcome<String> {
     Ok(format!("{} lengths refused", lengths.len()))
 }
 
+/// An empty buffer may stand anywhere: between guard bytes, at no address, at one that no buffer can have.
+pub fn empty_buffers() -> Outcome<String> {
+    let empties = [Lent::of(&[]), Lent::empty_at(0), Lent::empty_at(1), Lent::empty_at(usize::MAX)];
+    let mut sound = Lent::filled(640, 0);
+    lent::format(&mut sound)?;
+    let question = Lent::of(&frame(UNPROMISED, 255, 0, 0));
+    let mut calls = 0;
+    for empty in &empties {
+        let given = (lent::format(&mut empty.clone())?, lent::mark(empty)?);
+        if given != (101, 1) {
+            return Err(format!("format of an empty pool and mark of an empty line give {given:?}"));
+        }
+        for other in &empties {
+            for (pool, commands, answers, expected) in [
+                (empty, other, empty, 101),
+                (empty, &question, other, 101),
+                (&sound, empty, other, 0),
+                (&sound, empty, &Lent::filled(5, 9), 0),
+                (&sound, &question, empty, 103),
+                (&Lent::filled(640, 0), empty, other, 104),
+            ] {
+                let status = lent::run(&mut pool.clone(), commands, &mut answers.clone())?;
+                if status != expected {
+                    return Err(format!("a call with empty buffers: {status} in place of {expected}"));
+                }
+                calls += 1;
+            }
+        }
+    }
+    Ok(format!("{calls} calls"))
+}
+
 /// Command lists and answer rooms of every length around the limits.
 pub fn command_lengths() -> Outcome<String> {
     let mut lender = Lender::of_shares(6)?;

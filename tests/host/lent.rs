@@ -1,34 +1,33 @@
 //! The library's C interface, called with buffers that stand between guard bytes.
 
+#[path = "../interface.rs"]
+mod interface;
+
+use interface::{forfochry_format, forfochry_mark, forfochry_run};
+
 pub type Outcome<T> = Result<T, String>;
 
 /// Odd, so that no buffer is aligned.
 const GUARD: usize = 61;
 const GUARD_BYTE: u8 = 0xA7;
 
-unsafe extern "C" {
-    fn forfochry_format(pool: *mut u8, pool_len: usize) -> u32;
-    fn forfochry_run(
-        pool: *mut u8,
-        pool_len: usize,
-        commands: *const u8,
-        commands_len: usize,
-        answers: *mut u8,
-        answers_len: usize,
-    ) -> u64;
-    fn forfochry_mark(line: *const u8, line_len: usize) -> u8;
-}
-
 /// A buffer to lend, between guard bytes.
 #[derive(Clone)]
 pub struct Lent {
     all: Vec<u8>,
+    /// Where an empty buffer is said to stand, if not between its guard bytes.
+    elsewhere: Option<usize>,
 }
 
 impl Lent {
     pub fn of(content: &[u8]) -> Lent {
         let guard = [GUARD_BYTE; GUARD];
-        Lent { all: [&guard, content, &guard].concat() }
+        Lent { all: [&guard, content, &guard].concat(), elsewhere: None }
+    }
+
+    /// An empty buffer with any address at all.
+    pub fn empty_at(address: usize) -> Lent {
+        Lent { elsewhere: Some(address), ..Lent::of(&[]) }
     }
 
     pub fn filled(length: usize, byte: u8) -> Lent {
@@ -48,6 +47,14 @@ impl Lent {
         &mut self.all[GUARD..end]
     }
 
+    fn address(&self) -> *const u8 {
+        self.elsewhere.map_or(self.bytes().as_ptr(), std::ptr::without_provenance)
+    }
+
+    fn address_mut(&mut self) -> *mut u8 {
+        self.elsewhere.map_or(self.bytes_mut().as_mut_ptr(), std::ptr::without_provenance_mut)
+    }
+
     fn guarded(&self, what: &str) -> Outcome<()> {
         let outside = self.all[..GUARD].iter().chain(&self.all[self.all.len() - GUARD..]);
         if outside.copied().all(|byte| byte == GUARD_BYTE) {
@@ -60,7 +67,7 @@ impl Lent {
 
 pub fn format(pool: &mut Lent) -> Outcome<u32> {
     // SAFETY: one buffer of the length told.
-    let status = unsafe { forfochry_format(pool.bytes_mut().as_mut_ptr(), pool.len()) };
+    let status = unsafe { forfochry_format(pool.address_mut(), pool.len()) };
     pool.guarded("pool")?;
     Ok(status)
 }
@@ -72,11 +79,11 @@ pub fn run(pool: &mut Lent, commands: &Lent, answers: &mut Lent) -> Outcome<u32>
     // SAFETY: three buffers of the lengths told, none within another.
     let told = unsafe {
         forfochry_run(
-            pool.bytes_mut().as_mut_ptr(),
+            pool.address_mut(),
             pool.len(),
-            commands.bytes().as_ptr(),
+            commands.address(),
             commands.len(),
-            answers.bytes_mut().as_mut_ptr(),
+            answers.address_mut(),
             answers.len(),
         )
     };
@@ -102,10 +109,13 @@ pub fn run(pool: &mut Lent, commands: &Lent, answers: &mut Lent) -> Outcome<u32>
     Ok(0)
 }
 
-pub fn mark(line: &[u8]) -> u8 {
-    let line = Lent::of(line);
+pub fn mark(line: &Lent) -> Outcome<u8> {
+    let old = line.clone();
     // SAFETY: one buffer of the length told.
-    unsafe { forfochry_mark(line.bytes().as_ptr(), line.len()) }
+    let mark = unsafe { forfochry_mark(line.address(), line.len()) };
+    line.guarded("line")?;
+    same("the line", old.bytes(), line.bytes())?;
+    Ok(mark)
 }
 
 /// Two stretches of bytes are the same.

@@ -1,7 +1,7 @@
 //! The mark of a line, against document 01's rules written once more.
 
 use crate::dice::Dice;
-use crate::lent::{Outcome, mark};
+use crate::lent::{Lent, Outcome, mark};
 
 /// Document 01's rules, column by column.
 fn wanted(line: &[u8]) -> u8 {
@@ -54,14 +54,14 @@ const WRITTEN: [(&str, u8); 26] = [
 
 pub fn lines() -> Outcome<String> {
     for (line, written) in WRITTEN {
-        let given = mark(line.as_bytes());
+        let given = mark(&Lent::of(line.as_bytes()))?;
         if given != written {
             return Err(format!("{line:?} is marked {given}, not {written}"));
         }
     }
     let mut compared = 0;
     for line in edge_lines().chain(random_lines()) {
-        let (given, wanted) = (mark(&line), wanted(&line));
+        let (given, wanted) = (mark(&Lent::of(&line))?, wanted(&line));
         if given != wanted {
             return Err(format!("{:?} is marked {given}, not {wanted}", String::from_utf8_lossy(&line)));
         }

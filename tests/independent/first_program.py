@@ -7,46 +7,19 @@
 `against` exits with 1 at the first difference, and if a status was never seen.
 """
 import os
-import select
-import subprocess
+import random
 import sys
 
-sys.path.insert(0, os.path.dirname(os.path.abspath(__file__)))
+sys.path.insert(0, os.path.dirname(os.path.dirname(os.path.abspath(__file__))))
 import sessions  # noqa: E402
+from program import Difference, Talk, compare, pieces, run  # noqa: E402
 
-PATIENCE = 10  # seconds for an answer
 STATUSES = range(13)
 
 # seed, kind and frames of each session
 FIXED = [(seed, kind, 5000) for seed, kind in enumerate(list(sessions.KINDS) * 6)]
 FIXED += [(seed, "one large name", 20000) for seed in (100, 101)]
-
-
-class Difference(Exception):
-    pass
-
-
-def run(program, data):
-    """What the program writes, and its exit status."""
-    try:
-        ended = subprocess.run([program], input=data, stdout=subprocess.PIPE, timeout=6 * PATIENCE)
-    except subprocess.TimeoutExpired as late:
-        raise Difference("the program doesn't end") from late
-    return ended.stdout, ended.returncode
-
-
-def compare(label, data, wanted, result):
-    got, status = result
-    if got == wanted and status == 0:
-        return
-    if got == wanted:
-        raise Difference(f"{label}: all is answered, and the exit status is {status}")
-    lines, expected, given = data.split(b"\n"), wanted.split(b"\n"), got.split(b"\n")
-    for k, line in enumerate(lines):
-        want, have = (answers[k] if k < len(answers) else b"nothing" for answers in (expected, given))
-        if want != have:
-            raise Difference(f"{label}, line {k + 1}: {line[:60]!r}: expected {want.decode()}, got {have[:60]!r}")
-    raise Difference(f"{label}: {len(got)} bytes answered in place of {len(wanted)}")
+IN_PIECES = range(2 * len(sessions.KINDS))  # the seeds of sessions that are run twice, the second time handed over in pieces
 
 
 def fixed_sessions(program):
@@ -55,6 +28,9 @@ def fixed_sessions(program):
     for seed, kind, many in FIXED:
         data, wanted, spoilt = sessions.make(seed, many, kind)
         compare(f"seed {seed} ({kind})", data, wanted, run(program, data))
+        if seed in IN_PIECES:
+            handed = pieces(data, sessions.PIECES, random.Random(seed))
+            compare(f"seed {seed} ({kind}) in pieces", data, wanted, Talk(program).end(handed))
         bad += spoilt
         frames += many - spoilt
         for answer in wanted.split():
@@ -74,62 +50,26 @@ def grown_names(program):
 
 
 def small_inputs(program):
-    """Edges of document 01, and line ends."""
-    bad = sessions.BAD_ANSWER + b"\n"
-    question, answer = b"09FF000000000000", b"00FF00000000007C\n"
-    cases = [
-        (b"", b""),
-        (b"\n", bad),
-        (b"\n\n", bad * 2),
-        (b"\r", bad),
-        (b"\r\n", bad),
-        (question, answer),
-        (question + b"\n", answer),
-        (question + b"\r\n", bad),
-        (question + b"\n\n", answer + bad),
-        (question.lower() + b"\n" + b"0", answer + bad),
-        (b"0" * 200_000 + b"\n" + question, bad + answer),
-    ]
-    cases.append(tuple(b"".join(side.encode() + b"\n" for side in sides) for sides in zip(*sessions.EDGES)))
-    for data, wanted in cases:
-        compare("edges", data, wanted, run(program, data))
+    """Edges of document 01, bad lines and line ends."""
+    for data, wanted in sessions.small_inputs():
+        compare(f"small input {data[:60]!r}", data, wanted, run(program, data))
 
 
 def conversation(program, seed=7, frames=1500):
-    """Sends a session in pieces, mostly line by line: an answer has to come before more is sent."""
+    """Sends a session and the bad lines in pieces, mostly line by line: an answer has to come before more is sent."""
     data, wanted, _ = sessions.make(seed, frames, "many small names")
-    lines, answers = data.split(b"\n")[:-1], wanted.split(b"\n")
-    dice = sessions.Dice(seed)
-    talk = subprocess.Popen([program], stdin=subprocess.PIPE, stdout=subprocess.PIPE, bufsize=0)
-    try:
-        for k, line in enumerate(lines):
-            cut = dice.below(len(line) + 1)
-            for piece in [line[:cut], line[cut:] + b"\n"] if dice.chance(200) else [line + b"\n"]:
-                talk.stdin.write(piece)
-            got = hear_line(talk.stdout.fileno())
-            if got != answers[k] + b"\n":
-                raise Difference(f"conversation, line {k + 1}: {line[:60]!r}: expected {answers[k].decode()}, got {got!r}")
-        talk.stdin.close()
-        if talk.stdout.read() or talk.wait(PATIENCE) != 0:
-            raise Difference("conversation: the program doesn't end well")
-    except (BrokenPipeError, subprocess.TimeoutExpired) as trouble:
-        raise Difference(f"conversation: {trouble}") from trouble
-    finally:
-        talk.kill()
-        talk.wait()
+    lines, answers = data.split(b"\n")[:-1] + sessions.BAD_LINES, wanted.split() + [sessions.BAD_ANSWER] * len(sessions.BAD_LINES)
+    dice, talk = sessions.Dice(seed), Talk(program)
+    for k, line in enumerate(lines):
+        cut = dice.below(len(line) + 1)
+        for piece in [line[:cut], line[cut:] + b"\n"] if dice.chance(200) else [line + b"\n"]:
+            talk.send(piece)
+        got = talk.hear(len(answers[k]) + 1)
+        if got != answers[k] + b"\n":
+            talk.stop()
+            raise Difference(f"conversation, line {k + 1}: {line[:60]!r}: expected {answers[k].decode()} before more is sent, got {got!r}")
+    compare("after the conversation", b"", b"", talk.end())
     return len(lines)
-
-
-def hear_line(source):
-    heard = b""
-    while not heard.endswith(b"\n"):
-        if not select.select([source], [], [], PATIENCE)[0]:
-            raise Difference("conversation: no answer comes before the next line is sent")
-        piece = os.read(source, 100)
-        if not piece:
-            break
-        heard += piece
-    return heard
 
 
 def against(program):

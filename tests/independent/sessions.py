@@ -1,8 +1,9 @@
-"""Random sessions for the first program, by seed: lines of input and the answers that document 01 wants."""
+"""Sessions for the first program, random by seed or written out: lines of input and the answers that document 01 wants."""
 from index import ACCESS, CLOSE, DELETE, INSERT, LENGTH, OPEN, RANK, SELECT, UNPROMISED, Index
 
 SHARES = 124
 BAD_ANSWER = b"FF00000000000000"
+PIECES = [1, 2, 3, 16, 17, 18, 4096, 65536]  # bytes that are handed over at a time
 HEXADECIMAL = frozenset(b"0123456789abcdefABCDEF")
 
 
@@ -45,6 +46,15 @@ def answer_line(index, line):
     if len(line) == 16 and all(byte in HEXADECIMAL for byte in line):
         return index.respond(bytes.fromhex(line.decode("ascii"))).hex().upper().encode()
     return BAD_ANSWER
+
+
+def answers(data):
+    """What the first program writes for an input."""
+    lines = data.split(b"\n")
+    if not lines[-1]:
+        lines.pop()
+    index = Index(SHARES)
+    return b"".join(answer_line(index, line) + b"\n" for line in lines)
 
 
 # What a session is like: how many names it uses, the shares of an opening at least and at most, and of a thousand lines how many open or
@@ -248,6 +258,54 @@ EDGES = [
     ("0202000000000000", "0002000000000000"),
     ("0202000000000000", "0502000000000000"),
 ]
+
+
+# Lines that aren't exactly sixteen hexadecimal digits.
+BAD_LINES = [
+    b"",
+    b"\r",
+    b" ",
+    b"0",
+    b"09FF00000000000",
+    b"09FF0000000000000",
+    b"09FF000000000000\r",
+    b" 09FF00000000000",
+    b"09FF000000000000 ",
+    b"09FF00000000000G",
+    b"G9FF000000000000",
+    b"09FF0000/0000000",
+    b"09FF0000:0000000",
+    b"09FF0000@0000000",
+    b"09FF0000`0000000",
+    b"09FF0000g0000000",
+    b"0x09FF0000000000",
+    b"-9FF000000000000",
+    b"09FF\x000000000000",
+    b"\xff" * 16,
+    b"09FF000000000000" * 2,
+    b"0" * 17,
+    b"0" * 1000,
+    b"0" * 100000,
+    b"0" * 200000,
+]
+
+
+def small_inputs():
+    """The edges above, bad lines of every kind and line ends, each with the answers wanted, which are written out."""
+    bad = BAD_ANSWER + b"\n"
+    question, answer = b"09FF000000000000", b"00FF00000000007C\n"
+    yield tuple(b"".join(side.encode() + b"\n" for side in sides) for sides in zip(*EDGES))
+    yield b"", b""
+    yield b"\n\n", bad * 2
+    yield b"\n" * 100, bad * 100
+    yield question, answer
+    yield question + b"\n", answer
+    yield question + b"\n\n", answer + bad
+    yield question[:8] + b"\n" + question[8:], bad * 2
+    for line in BAD_LINES:
+        yield line + b"\n", bad
+        yield line, bad if line else b""
+        yield question + b"\n" + line + b"\n" + question.lower() + b"\n" + line, answer + bad + answer + (bad if line else b"")
 
 
 # Where a growing name of n marks takes the next, and a shrinking one gives one back.

@@ -1,4 +1,4 @@
-// The check of a full pool, beside the same check in plain C and a plain sum of the bytes of all held blocks, in one run.
+// The check of a full pool, beside a check of the same in plain C and a plain sum of the bytes of all held blocks, in one run.
 // Four pools of 65,536 bytes with 12,192 marks: in one name and in sixteen, the usual mix of marks and an even one.
 #include <stdbool.h>
 #include <stdint.h>

@@ -1,4 +1,6 @@
-// The check in plain C, without proofs: the same tests in the same order.
+// The check in plain C, without proofs: the tests of crates/sound in their order, but for a leaf below a branch. There the proved check adds
+// up the claims first, then counts over a whole block and stops behind the last symbol claimed; this one counts over the leaf's own length,
+// looks at every symbol and compares the sum of the claims last. Both refuse the same pools.
 typedef struct { const uint8_t *p; uint8_t *map; unsigned shares, alphabet, holder; } Walk;
 
 static unsigned count_of(const uint8_t *marks, size_t n, uint8_t c) {

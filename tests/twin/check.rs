@@ -40,7 +40,7 @@ fn good_name(pool: &Pool, map: &mut Map, name: usize) -> bool {
 fn good_record(bytes: &RecordBytes, record: &Record) -> bool {
     bytes[0] == 1
         && (2..=SYMBOLS).contains(&record.alphabet)
-        && record.height <= MOST_HEIGHT
+        && record.height <= if cfg!(fault = "check_refuses_height_6") { 5 } else { MOST_HEIGHT }
         && bytes[3] == 0
         && record.shares >= 1
         && record.length <= record.room()

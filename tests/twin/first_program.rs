@@ -1,21 +1,13 @@
 //! The first program of document 01 over the C interface, for trying tests of it before the proved one is there.
 
+#[path = "../interface.rs"]
+mod interface;
+
+use interface::{forfochry_format, forfochry_run};
 use std::io::{Read, Write, stdin, stdout};
 
 const POOL_BYTES: usize = 16_384;
 const BAD_LINE: [u8; 8] = [0xFF, 0, 0, 0, 0, 0, 0, 0];
-
-unsafe extern "C" {
-    fn forfochry_format(pool: *mut u8, pool_len: usize) -> u32;
-    fn forfochry_run(
-        pool: *mut u8,
-        pool_len: usize,
-        commands: *const u8,
-        commands_len: usize,
-        answers: *mut u8,
-        answers_len: usize,
-    ) -> u64;
-}
 
 fn frame(line: &[u8]) -> Option<[u8; 8]> {
     let digits: Vec<u8> = line.iter().map_while(|&byte| (byte as char).to_digit(16)).map(|d| d as u8).collect();
@@ -34,7 +26,7 @@ fn answer(pool: &mut [u8], line: &[u8]) -> String {
     answer.iter().map(|byte| format!("{byte:02X}")).collect::<String>() + "\n"
 }
 
-fn main() -> std::io::Result<()> {
+pub fn main() -> std::io::Result<()> {
     let mut pool = vec![0; POOL_BYTES];
     // SAFETY: one buffer of the length told.
     unsafe { forfochry_format(pool.as_mut_ptr(), pool.len()) };

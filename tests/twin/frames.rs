@@ -82,10 +82,14 @@ struct Index<'a> {
 
 /// Runs a call: the number of frames run, or the number of its refusal.
 pub fn run(pool: &mut [u8], commands: &[u8], answers: &mut [u8]) -> Result<usize, u32> {
+    let bad_commands = commands.len() % FRAME != 0 || commands.len() > MOST_COMMANDS;
+    if cfg!(fault = "commands_looked_at_first") && bad_commands {
+        return Err(102);
+    }
     if !layout::allowed_length(pool.len()) {
         return Err(101);
     }
-    if commands.len() % FRAME != 0 || commands.len() > MOST_COMMANDS {
+    if bad_commands {
         return Err(102);
     }
     if answers.len() < commands.len() {
@@ -96,6 +100,9 @@ pub fn run(pool: &mut [u8], commands: &[u8], answers: &mut [u8]) -> Result<usize
     }
     if cfg!(fault = "refuses_all") {
         return Err(104);
+    }
+    if cfg!(fault = "no_check_without_frames") && commands.is_empty() {
+        return Ok(0);
     }
     let pool = Pool::of(pool);
     let map = check::check(&pool).ok_or(104u32)?;
@@ -110,6 +117,9 @@ pub fn run(pool: &mut [u8], commands: &[u8], answers: &mut [u8]) -> Result<usize
     }
     if cfg!(fault = "writes_past_the_answers") && room.len() == frames.len() {
         past.fill(0);
+    }
+    if cfg!(fault = "clears_the_whole_room") {
+        room[frames.len()..].fill([0; FRAME]);
     }
     Ok(frames.len())
 }
@@ -221,6 +231,7 @@ impl<'a> Index<'a> {
             ACCESS => {
                 let (symbol, depth) = tree::access(&self.pool, &record, number);
                 self.leave_a_trace(&record);
+                let depth = if cfg!(fault = "depth_counts_open_names") { depth + self.open_names() } else { depth };
                 Answer { symbol, depth: depth as u8, value: 0 }
             }
             RANK => Answer::value(tree::rank(&self.pool, &record, symbol, number)),
@@ -235,6 +246,10 @@ impl<'a> Index<'a> {
         if cfg!(fault = "query_leaves_a_trace") && record.length < layout::MOST_LEAF {
             self.pool.blocks[record.root][layout::MOST_LEAF - 1] = 1;
         }
+    }
+
+    fn open_names(&self) -> usize {
+        (0..NAMES).filter(|&name| self.pool.is_open(name)).count()
     }
 
     fn edit(&mut self, name: usize, record: Record) -> Edit<'_, 'a> {
@@ -258,7 +273,18 @@ impl<'a> Index<'a> {
         self.scribble(name);
         let record = self.pool.record(name);
         self.edit(name, record).insert(place, mark);
+        self.sign(name);
         Answer::value(record.length + 1)
+    }
+
+    /// The fault of an edit that leaves the pool's address in it, where no entry stands.
+    fn sign(&mut self, name: usize) {
+        if cfg!(fault = "pool_bears_its_address") {
+            let (record, address) = (self.pool.record(name), self.pool.blocks.as_ptr().addr().to_le_bytes());
+            if record.length < layout::MOST_LEAF {
+                self.pool.blocks[record.root][layout::MOST_LEAF - 1] = address.iter().fold(0, |sum, byte| sum ^ byte);
+            }
+        }
     }
 
     fn delete(&mut self, name: usize, place: usize) -> Answer {

@@ -68,7 +68,8 @@ pub fn allowed_length(length: usize) -> bool {
 }
 
 pub fn format(bytes: &mut [u8]) -> u32 {
-    if !allowed_length(bytes.len()) {
+    let longer = cfg!(fault = "format_takes_longer_pools") && bytes.len() > MOST_POOL;
+    if !allowed_length(bytes.len()) && !longer {
         return 101;
     }
     let set = if cfg!(fault = "format_leaves_blocks") { DIRECTORY_BYTES } else { bytes.len() };

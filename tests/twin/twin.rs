@@ -46,6 +46,9 @@ pub unsafe extern "C" fn run(
     answers: *mut u8,
     answers_len: usize,
 ) -> u64 {
+    if cfg!(fault = "refuses_null") && commands.is_null() {
+        return 102 << 32;
+    }
     let pool = unsafe { lent_mut(pool, pool_len) };
     let commands = unsafe { lent(commands, commands_len) };
     let answers = unsafe { lent_mut(answers, answers_len) };
