@@ -31,7 +31,6 @@ use Rattle.pool.proofs.Sums.{sumBelow-same, sumBelow-one, sumBelow-two}
 use Rattle.sound.proofs.Holders.{times-held, name-inside}
 use Rattle.sound.proofs.Readings.{zero-free, held-by}
 use Rattle.edit.specs.Maps.{isFree, freeIn, Entered, Agrees}
-use Rattle.removal.specs.Frees.{Freed}
 use Rattle.names.specs.Updates.{Exact}
 
 -- Counts as sums over places.
@@ -203,9 +202,6 @@ module _ (p p′ m n : List ℕ) (name : ℕ) (low : name < names) (sound : Soun
       };
     }
 
--- free blocks entered, and blocks freed
+-- free blocks entered
 pub entered-turns : (holder : ℕ) (m n : List ℕ) → Entered holder m n → (x : ℕ) → Turns holder (getD m x 0) (getD n x 0)
 entered-turns holder m n entered x = ⊎-elim (λ same. inl same) (λ w. inr (inl w)) (entered .each x)
-
-pub freed-turns : (holder : ℕ) (m n : List ℕ) → Freed m n → (x : ℕ) → Turns holder (getD m x 0) (getD n x 0)
-freed-turns holder m n freed x = ⊎-elim (λ same. inl same) (λ zero. inr (inr zero)) (freed .each x)
