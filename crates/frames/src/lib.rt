@@ -13,7 +13,7 @@ mod statuses;
 // Answers one command and does what it says, or refuses it.
 pub fn execute(pool: &mut [u8], c: Command, map: &mut [u8]) -> Answer
     requires { ⌜ Ready (now pool) (now map) ⌝ }
-    ensures { λ r. ⌜ Stepped (now (pool .entry)) c r (now (pool .exit)) (now (map .entry)) (now (map .exit)) ⌝ }
+    ensures { λ r. ⌜ Stepped (now (pool .entry)) c r (now (pool .exit)) (now (map .exit)) ⌝ }
 {
     let status = status_of(pool, c);
     if status != 0 {

@@ -117,7 +117,7 @@ module _ (p m : List ℕ) (name : ℕ) (old : Record) (is : old ≡ recordOf p n
           storable p q m n name (at .within) (at .opened) _ (g .level) (g .root) _
           (insert-changed p q m n name i c at g inserted-in) (insert-fits p q m n name i c at g inserted-in)
 
-      pub inserted-at : (r : List ℕ) → PutRecord name (withTree old (g .level) (g .root) (old .length + 1)) q r → InsertedAt name i c p r m n
+      pub inserted-at : (r : List ℕ) → PutRecord name (withTree old (g .level) (g .root) (old .length + 1)) q r → InsertedAt name i c p r n
       inserted-at r put =
           tree-stored p q m n name (at .within) (at .opened) _ (g .level) (g .root) _
           (insert-changed p q m n name i c at g inserted-in) (insert-fits p q m n name i c at g inserted-in) r (rw is at put) (insertT oneToAByte c i) refl
@@ -138,7 +138,7 @@ module _ (p m : List ℕ) (name : ℕ) (old : Record) (is : old ≡ recordOf p n
           storable p q m n name (at .within) (at .opened) _ (g .level) (g .root) _
           (delete-changed p q m n name i at g deleted-in) (delete-fits p q m n name i at g deleted-in)
 
-      pub deleted-at : (r : List ℕ) → PutRecord name (withTree old (g .level) (g .root) (old .length - 1)) q r → DeletedAt name i (g .mark) p r m n
+      pub deleted-at : (r : List ℕ) → PutRecord name (withTree old (g .level) (g .root) (old .length - 1)) q r → DeletedAt name i (g .mark) p r n
       deleted-at r put =
           record {
             taken = deleted-in .taken;
