@@ -34,14 +34,7 @@ use Rattle.protocol.specs.Respond.{accepted, refused, respond}
 use Rattle.protocol.specs.State.{Part, closed, opened, alphabetOf, sharesOf, marksOf, partOf, unpromised}
 use Rattle.protocol.specs.declared.Answer.{Answer}
 use Rattle.protocol.specs.declared.Command.{Command}
-use Rattle.sequence.specs.Definition1.{access}
-use Rattle.shape.specs.Sizes.{oneToAByte}
-use Rattle.shape.specs.Trees.{Tree, emptyT, insertT, deleteT}
-use Rattle.updates.specs.Edits.{InsertAt, DeleteAt, InsertedAt, DeletedAt}
-use Rattle.frames.specs.Statuses.{statusIn, answerOf, valueTo}
-use Rattle.frames.specs.Steps.{isChange, Kept, Stepped, Ready}
-use Rattle.frames.proofs.Codes.{listed-within}
-use Rattle.frames.proofs.Effects.{
+use Rattle.questions.proofs.Effects.{
   ToOpen,
   effectIn,
   accepted-answer,
@@ -54,6 +47,14 @@ use Rattle.frames.proofs.Effects.{
   insert-effect,
   delete-effect,
 }
+use Rattle.questions.specs.Accepted.{answerOf, valueTo}
+use Rattle.sequence.specs.Definition1.{access}
+use Rattle.shape.specs.Sizes.{oneToAByte}
+use Rattle.shape.specs.Trees.{Tree, emptyT, insertT, deleteT}
+use Rattle.statuses.proofs.Codes.{listed-within}
+use Rattle.statuses.specs.Statuses.{statusIn}
+use Rattle.updates.specs.Edits.{InsertAt, DeleteAt, InsertedAt, DeletedAt}
+use Rattle.frames.specs.Steps.{isChange, Kept, Stepped, Ready}
 
 -- Nothing changes.
 same-blocks : (p bs : List ℕ) → SameBlocks bs p p

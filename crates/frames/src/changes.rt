@@ -2,14 +2,14 @@
 ghost use mathlib.Core.Path.{_≡_};
 ghost use Prim.Native.Nat.{_≤_};
 ghost use Rattle.protocol.specs.Commands.{openCode, closeCode, insertCode, deleteCode};
-ghost use Rattle.frames.specs.Statuses.{statusIn};
+ghost use Rattle.statuses.specs.Statuses.{statusIn};
 ghost use Rattle.frames.specs.Steps.{Ready, Stepped};
-use crate::queries::with_value;
 use names::close;
 use names::open;
 use pool::read_record;
 use protocol::Answer;
 use protocol::Command;
+use questions::with_value;
 use updates::delete;
 use updates::insert;
 
