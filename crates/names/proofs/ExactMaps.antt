@@ -109,11 +109,6 @@ module _ (p m : List ℕ) (exact : Exact p m) where
       ∙ sumBelow-same (shares p) (λ i. isMark 0 (getD m i 0)) (λ b. cond (isHeld p b) 0 1) (λ b low. sym (missing-free b low))
 
   module _ (sound : Sound p) where
-    -- and by no other
-    pub marked-once : (b : ℕ) → b < shares p → (x y : ℕ) → x < names → y < names → (x ≡ y → ⊥) → getD m b 0 ≡ x + 1 → count b (blocksOf p y) ≡ 0
-    marked-once b low x y lx ly other marked =
-        omega (arith, marked-held b low x lx marked, held-two p b x y lx ly other, sound .apart b)
-
     pub block-byte : (b name : ℕ) → name < names → 1 ≤ count b (blocksOf p name) → getD m b 0 ≡ name + 1
     block-byte b name low here =
         exact .holders .held b name
