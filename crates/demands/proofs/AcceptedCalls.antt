@@ -9,17 +9,17 @@ use native.Mathlib.Omega.{arith}
 use lib.ListN.{length, take, drop, length-append, length-drop}
 use lib.Seq.{take-at, drop-at}
 use Rattle.geometry.specs.Limits.{frameSize}
+use Rattle.index.proofs.Cutting.{commands-many}
 use Rattle.index.proofs.Following.{runs-many, runs-long, runs-sound}
 use Rattle.index.specs.Calls.{CommandsAllowed, StatusOfCall, Ran}
-use Rattle.index.specs.Runs.{Runs, commandsIn}
+use Rattle.index.specs.Runs.{Runs, eights, commandsIn}
 use Rattle.index.specs.declared.Outcome.{Outcome}
-use Rattle.pool.proofs.Froms.{length-from}
 use Rattle.pool.specs.Sound.{Sound}
-use Rattle.protocol.specs.Frames.{commandOf, bytesOfAnswer}
+use Rattle.protocol.specs.Frames.{bytesOfAnswer}
 use Rattle.protocol.specs.declared.Answer.{Answer}
 use Rattle.sequence.specs.Items.{All}
 use Rattle.shape.specs.Nested.{joined}
-use Rattle.demands.specs.Accepted.{Frame, framesRun, eights, answerFrames}
+use Rattle.demands.specs.Accepted.{Frame, framesRun, answerFrames}
 use Rattle.demands.proofs.Eights.{length-of-frames, cut-frames, length-of-answer}
 use Rattle.demands.proofs.FramesRun.{IsStep, each-frame}
 
@@ -36,10 +36,6 @@ zero-allowed p commands room s e (inr (inr (inl x))) = absurd (omega arith)
 zero-allowed p commands room s e (inr (inr (inr (inl x)))) = absurd (omega arith)
 zero-allowed p commands room s e (inr (inr (inr (inr x)))) = record { whole = x .2; fits = x .3; sound = x .4 }
 
-pub length-commands : (commands : List ℕ) → length (commandsIn commands) ≡ length commands / frameSize
-unfolding commandsIn
-length-commands commands = length-from (λ k. commandOf (take frameSize (drop (frameSize * k) commands))) 0 (length commands / frameSize)
-
 module _ (p commands room : List ℕ) (r : Outcome) (q filled : List ℕ) (ran : Ran p commands room r q filled) (zero : r .status ≡ 0) where
   pub allowed : Allowed p commands room
   allowed = zero-allowed p commands room (r .status) zero (ran .status)
@@ -51,7 +47,7 @@ module _ (p commands room : List ℕ) (r : Outcome) (q filled : List ℕ) (ran :
   runs = ran .accepted zero .runs
 
   pub one-each : length answers ≡ length commands / frameSize
-  one-each = runs-many (commandsIn commands) p q answers runs ∙ length-commands commands
+  one-each = runs-many (commandsIn commands) p q answers runs ∙ commands-many commands
 
   length-answers : length (joined bytesOfAnswer answers) ≡ length commands
   length-answers = omega (arith, length-of-frames bytesOfAnswer length-of-answer answers, one-each, allowed .whole)

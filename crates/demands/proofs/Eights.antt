@@ -7,11 +7,11 @@ use native.Mathlib.Omega.{arith}
 use lib.ListN.{length, take, drop, length-append}
 use lib.Seq.{take-at, drop-at}
 use Rattle.geometry.specs.Limits.{frameSize}
+use Rattle.index.specs.Runs.{eights}
 use Rattle.pool.specs.Bytes.{from}
 use Rattle.protocol.specs.Frames.{bytesOfAnswer}
 use Rattle.protocol.specs.declared.Answer.{Answer}
 use Rattle.shape.specs.Nested.{joined}
-use Rattle.demands.specs.Accepted.{eights}
 
 module _ {A : Type 0} (f : A → List ℕ) (eight : (x : A) → length (f x) ≡ frameSize) where
   pub length-of-frames : (xs : List A) → length (joined f xs) ≡ frameSize * length xs

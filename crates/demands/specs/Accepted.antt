@@ -2,13 +2,11 @@
 -- Assumes nothing.
 use mathlib.Core.Path.{_≡_}
 use mathlib.Core.List.{List, [], _∷_, _++_}
-use Prim.Native.Nat.{ℕ, _*_, _/_}
-use lib.ListN.{length, take, drop}
-use Rattle.geometry.specs.Limits.{frameSize}
+use Prim.Native.Nat.{ℕ}
+use lib.ListN.{length, take}
 use Rattle.index.specs.Calls.{Formats, Ran}
-use Rattle.index.specs.Runs.{Runs, commandsIn}
+use Rattle.index.specs.Runs.{Runs, eights, commandsIn}
 use Rattle.index.specs.declared.Outcome.{Outcome}
-use Rattle.pool.specs.Bytes.{from}
 use Rattle.protocol.specs.declared.Answer.{Answer}
 use Rattle.protocol.specs.declared.Command.{Command}
 
@@ -37,10 +35,6 @@ framesOf p (c ∷ cs) answers q runs =
 abbrev pub framesRun : {p commands room : List ℕ} {r : Outcome} {q filled : List ℕ} → Ran p commands room r q filled → r .status ≡ 0 → List Frame
 framesRun {p} {commands} {room} {r} {q} {filled} ran zero =
     framesOf p (commandsIn commands) (ran .accepted zero .answers) q (ran .accepted zero .runs)
-
--- a buffer cut into frames of eight bytes
-unfoldable pub eights : List ℕ → List (List ℕ)
-eights bytes = from (λ k. take frameSize (drop (frameSize * k) bytes)) 0 (length bytes / frameSize)
 
 -- the answer frames of a call: those at the front of the answer room, as many as the commands
 abbrev pub answerFrames : List ℕ → List ℕ → List (List ℕ)

@@ -80,12 +80,12 @@ pub record Demand1 : Type 0 where
 
 -- That the calls end, rely on nothing, and promise what is said above.
 
--- a condition that says nothing, and one that says this
+-- a condition that asks nothing, and one that is this statement
 abbrev pub Nothing : (w : World) → Pr w
 Nothing w = connectives (w .𝓤) .⊤ₛ
 
-abbrev pub Says : (w : World) → Type 0 → Pr w
-Says w This = connectives (w .𝓤) .⌜_⌝ This
+abbrev pub Stated : (w : World) → Type 0 → Pr w
+Stated w This = connectives (w .𝓤) .⌜_⌝ This
 
 -- each call's code, on whatever it is lent, ends safely and keeps its contract, which asks for nothing and promises the definition above
 -- (a is what is lent, in turn, s the same at exit, r the result)
@@ -93,12 +93,12 @@ pub record Demand1Ends : Type 2 where
   pub formatEnds : (M : Type 1) → Format.statement M
   pub formatAsks : (κs : Lfts 1) (a : ArgsD format.signature κs) (w : World) → FormatReads.requires κs a tt w ≡ Nothing w
   pub formatPromises : (κs : Lfts 1) (a : ArgsD format.signature κs) (r : ResD format.signature κs) (s : AtExit format.ended κs) (w : World)
-      → FormatReads.ensures κs a tt r s w ≡ Says w (Formats (now (a .0)) r (now (s .0)))
+      → FormatReads.ensures κs a tt r s w ≡ Stated w (Formats (now (a .0)) r (now (s .0)))
   pub runEnds : (M : Type 1) → Run.statement M
   pub runAsks : (κs : Lfts 3) (a : ArgsD run.signature κs) (w : World) → RunReads.requires κs a tt w ≡ Nothing w
   pub runPromises : (κs : Lfts 3) (a : ArgsD run.signature κs) (r : ResD run.signature κs) (s : AtExit run.ended κs) (w : World)
-      → RunReads.ensures κs a tt r s w ≡ Says w (Ran (now (a .0)) (now (a .1 .0)) (now (a .1 .1 .0)) r (now (s .0)) (now (s .1 .1 .0)))
+      → RunReads.ensures κs a tt r s w ≡ Stated w (Ran (now (a .0)) (now (a .1 .0)) (now (a .1 .1 .0)) r (now (s .0)) (now (s .1 .1 .0)))
   pub markEnds : (M : Type 1) → Mark.statement M
   pub markAsks : (κs : Lfts 1) (a : ArgsD mark.signature κs) (w : World) → MarkReads.requires κs a tt w ≡ Nothing w
   pub markPromises : (κs : Lfts 1) (a : ArgsD mark.signature κs) (r : ResD mark.signature κs) (s : AtExit mark.ended κs) (w : World)
-      → MarkReads.ensures κs a tt r s w ≡ Says w (r ≡ markOf (now (a .0)))
+      → MarkReads.ensures κs a tt r s w ≡ Stated w (r ≡ markOf (now (a .0)))

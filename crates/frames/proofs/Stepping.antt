@@ -34,14 +34,7 @@ use Rattle.protocol.specs.Respond.{accepted, refused, respond}
 use Rattle.protocol.specs.State.{Part, closed, opened, alphabetOf, sharesOf, marksOf, partOf, unpromised}
 use Rattle.protocol.specs.declared.Answer.{Answer}
 use Rattle.protocol.specs.declared.Command.{Command}
-use Rattle.sequence.specs.Definition1.{access}
-use Rattle.shape.specs.Sizes.{oneToAByte}
-use Rattle.shape.specs.Trees.{Tree, emptyT, insertT, deleteT}
-use Rattle.updates.specs.Edits.{InsertAt, DeleteAt, InsertedAt, DeletedAt}
-use Rattle.frames.specs.Statuses.{statusIn, answerOf, valueTo}
-use Rattle.frames.specs.Steps.{isChange, Kept, Stepped, Ready}
-use Rattle.frames.proofs.Codes.{listed-within}
-use Rattle.frames.proofs.Effects.{
+use Rattle.questions.proofs.Effects.{
   ToOpen,
   effectIn,
   accepted-answer,
@@ -54,6 +47,14 @@ use Rattle.frames.proofs.Effects.{
   insert-effect,
   delete-effect,
 }
+use Rattle.questions.specs.Accepted.{answerOf, valueTo}
+use Rattle.sequence.specs.Definition1.{access}
+use Rattle.shape.specs.Sizes.{oneToAByte}
+use Rattle.shape.specs.Trees.{Tree, emptyT, insertT, deleteT}
+use Rattle.statuses.proofs.Codes.{listed-within}
+use Rattle.statuses.specs.Statuses.{statusIn}
+use Rattle.updates.specs.Edits.{InsertAt, DeleteAt, InsertedAt, DeletedAt}
+use Rattle.frames.specs.Steps.{isChange, Kept, Stepped, Ready}
 
 -- Nothing changes.
 same-blocks : (p bs : List ℕ) → SameBlocks bs p p
@@ -65,7 +66,7 @@ kept-itself name p =
     record { bytes = record { long = refl; entry = λ j low. refl; held = same-blocks p (blocksOf p name) }; blocks = refl }
 
 module _ (p m : List ℕ) (c : Command) (ready : Ready p m) where
-  stays-itself : (a : Answer) → a ≡ answerOf p c → respond trees (meaning p) c .state ≡ meaning p → Stepped p c a p m m
+  stays-itself : (a : Answer) → a ≡ answerOf p c → respond trees (meaning p) c .state ≡ meaning p → Stepped p c a p m
   stays-itself a is same =
       record {
         step =
@@ -81,7 +82,7 @@ module _ (p m : List ℕ) (c : Command) (ready : Ready p m) where
       }
 
   pub refused-steps : (status : ℕ) → status ≡ statusIn p c → (status ≡ 0 → ⊥)
-      → Stepped p c (record { status = status; name = c .name; symbol = 0; depth = 0; value = 0 }) p m m
+      → Stepped p c (record { status = status; name = c .name; symbol = 0; depth = 0; value = 0 }) p m
   refused-steps status is some =
       let given : respond trees (meaning p) c .answer .status ≡ status = respond-status trees (meaning p) c ∙ sym is in
       let refusal : respond trees (meaning p) c .answer .status ≢ 0 = λ none. some (sym given ∙ none) in
@@ -89,14 +90,14 @@ module _ (p m : List ℕ) (c : Command) (ready : Ready p m) where
       (ap (λ s. refused s c) (sym given) ∙ sym (refused-answers-zeros trees (meaning p) c refusal))
       (refused-keeps-state trees (meaning p) c refusal)
 
-  pub asked-steps : (a : Answer) → a ≡ answerOf p c → accessCode ≤ c .code → Stepped p c a p m m
+  pub asked-steps : (a : Answer) → a ≡ answerOf p c → accessCode ≤ c .code → Stepped p c a p m
   asked-steps a is late = stays-itself a is (query-keeps-state trees (meaning p) c late)
 
 -- One name changes.
 module _ (p m : List ℕ) (c : Command) (ready : Ready p m) (status : statusIn p c ≡ 0) where
   update-steps : (q n : List ℕ) (a : Answer) → c .name < names → isChange (c .code) ≡ true → a ≡ accepted c (effectIn p c)
-      → Updated (c .name) (effectIn p c .part) p q m n
-      → Stepped p c a q m n
+      → Updated (c .name) (effectIn p c .part) p q n
+      → Stepped p c a q n
   unfolding respond
   update-steps q n a low changes is done =
       let told = accepted-answer p c (ready .sound) status in
@@ -141,12 +142,12 @@ module _ (p m : List ℕ) (c : Command) (ready : Ready p m) (status : statusIn p
           room = omega (arith, allowed .unpromised, unpromised-meaning p (ready .sound));
         }
 
-    pub open-steps : (q n : List ℕ) (a : Answer) → Updated (c .name) (opened (c .symbol) (c .number) emptyT) p q m n → a ≡ valueTo c 0
-        → Stepped p c a q m n
+    pub open-steps : (q n : List ℕ) (a : Answer) → Updated (c .name) (opened (c .symbol) (c .number) emptyT) p q n → a ≡ valueTo c 0
+        → Stepped p c a q n
     open-steps q n a done told =
         let effect = open-effect (unpromised (meaning p)) (partOf (meaning p) (c .name)) c is in
         update-steps q n a open-low (ap isChange is) (told ∙ sym (ap (accepted c) effect))
-        (subst (λ (e : Effect Tree). Updated (c .name) (e .part) p q m n) (sym effect) done)
+        (subst (λ (e : Effect Tree). Updated (c .name) (e .part) p q n) (sym effect) done)
 
   -- a closing
   module _ (is : c .code ≡ closeCode) where
@@ -158,11 +159,11 @@ module _ (p m : List ℕ) (c : Command) (ready : Ready p m) (status : statusIn p
     pub close-ready : CloseReady p m (c .name)
     close-ready = record { within = within (close-open .low); opened = close-open .opened }
 
-    pub close-steps : (q n : List ℕ) (a : Answer) → Updated (c .name) closed p q m n → a ≡ valueTo c 0 → Stepped p c a q m n
+    pub close-steps : (q n : List ℕ) (a : Answer) → Updated (c .name) closed p q n → a ≡ valueTo c 0 → Stepped p c a q n
     close-steps q n a done told =
         let effect = close-effect (unpromised (meaning p)) (partOf (meaning p) (c .name)) c is in
         update-steps q n a (close-open .low) (ap isChange is) (told ∙ sym (ap (accepted c) effect))
-        (subst (λ (e : Effect Tree). Updated (c .name) (e .part) p q m n) (sym effect) done)
+        (subst (λ (e : Effect Tree). Updated (c .name) (e .part) p q n) (sym effect) done)
 
   -- an insert
   module _ (is : c .code ≡ insertCode) where
@@ -189,9 +190,9 @@ module _ (p m : List ℕ) (c : Command) (ready : Ready p m) (status : statusIn p
           room = omega (arith, full, marks, long, ap sharesOf (insert-open .part), insert-open .opened .room);
         }
 
-    pub insert-steps : (q n : List ℕ) (found : Record) (a : Answer) → found ≡ recordOf p (c .name) → InsertedAt (c .name) (c .number) (c .symbol) p q m n
+    pub insert-steps : (q n : List ℕ) (found : Record) (a : Answer) → found ≡ recordOf p (c .name) → InsertedAt (c .name) (c .number) (c .symbol) p q n
         → a ≡ valueTo c (found .length + 1)
-        → Stepped p c a q m n
+        → Stepped p c a q n
     insert-steps q n found a read done told =
         let effect = insert-effect (unpromised (meaning p)) (partOf (meaning p) (c .name)) c is in
         let marks : found .length ≡ length (marksOf trees (partOf (meaning p) (c .name)))
@@ -199,8 +200,8 @@ module _ (p m : List ℕ) (c : Command) (ready : Ready p m) (status : statusIn p
         ∙ insert-open .opened .length
         ∙ sym (ap (λ (part : Part Tree). length (marksOf trees part)) (insert-open .part)) in
         update-steps q n a (insert-open .low) (ap isChange is) (told ∙ ap (λ k. valueTo c (k + 1)) marks ∙ sym (ap (accepted c) effect))
-        (subst (λ (e : Effect Tree). Updated (c .name) (e .part) p q m n) (sym effect)
-        (subst (λ (part : Part Tree). Updated (c .name) (edited (insertT oneToAByte (c .symbol) (c .number)) part) p q m n)
+        (subst (λ (e : Effect Tree). Updated (c .name) (e .part) p q n) (sym effect)
+        (subst (λ (part : Part Tree). Updated (c .name) (edited (insertT oneToAByte (c .symbol) (c .number)) part) p q n)
         (sym (part-meaning p (c .name) (insert-open .low)))
         done))
 
@@ -234,8 +235,8 @@ module _ (p m : List ℕ) (c : Command) (ready : Ready p m) (status : statusIn p
       pub delete-some : 1 ≤ found .length
       delete-some = omega (arith, ap (λ (r : Record). r .length) read, delete-ready .first, delete-ready .last)
 
-      pub delete-steps : (q n : List ℕ) (mark : ℕ) → DeletedAt (c .name) (c .number) mark p q m n
-          → Stepped p c (record { status = 0; name = c .name; symbol = mark; depth = 0; value = found .length - 1 }) q m n
+      pub delete-steps : (q n : List ℕ) (mark : ℕ) → DeletedAt (c .name) (c .number) mark p q n
+          → Stepped p c (record { status = 0; name = c .name; symbol = mark; depth = 0; value = found .length - 1 }) q n
       delete-steps q n mark done =
           let effect = delete-effect (unpromised (meaning p)) (partOf (meaning p) (c .name)) c is in
           let kept = ap (marksOf trees) (delete-open .part) in
@@ -246,8 +247,8 @@ module _ (p m : List ℕ) (c : Command) (ready : Ready p m) (status : statusIn p
           update-steps q n _ (delete-open .low) (ap isChange is)
           (ap₂ {C = Answer} (λ x k. record { status = 0; name = c .name; symbol = x; depth = 0; value = k - 1 }) taken marks
           ∙ sym (ap (accepted c) effect))
-          (subst (λ (e : Effect Tree). Updated (c .name) (e .part) p q m n) (sym effect)
-          (subst (λ (part : Part Tree). Updated (c .name) (edited (deleteT oneToAByte (c .number)) part) p q m n)
+          (subst (λ (e : Effect Tree). Updated (c .name) (e .part) p q n) (sym effect)
+          (subst (λ (part : Part Tree). Updated (c .name) (edited (deleteT oneToAByte (c .number)) part) p q n)
           (sym (part-meaning p (c .name) (delete-open .low)))
           (done .updated)))
 

@@ -40,8 +40,8 @@ pub record Step (p : List ℕ) (c : Command) (a : Answer) (q : List ℕ) : Type 
   pub long : length q ≡ length p
   pub others : (name : ℕ) → name < names → name ≢ c .name → Kept name p q
 
--- the same with the map of blocks, which is exact before and after
-pub record Stepped (p : List ℕ) (c : Command) (a : Answer) (q m n : List ℕ) : Type 0 where
+-- the same with the map of blocks after it, which is exact
+pub record Stepped (p : List ℕ) (c : Command) (a : Answer) (q n : List ℕ) : Type 0 where
   pub step : Step p c a q
   pub map : Exact q n
 

@@ -2,21 +2,21 @@
 ghost use mathlib.Core.Path.{_≡_};
 ghost use Prim.Native.Nat.{_≤_};
 ghost use Rattle.protocol.specs.Commands.{openCode, closeCode, insertCode, deleteCode};
-ghost use Rattle.frames.specs.Statuses.{statusIn};
+ghost use Rattle.statuses.specs.Statuses.{statusIn};
 ghost use Rattle.frames.specs.Steps.{Ready, Stepped};
-use crate::queries::with_value;
 use names::close;
 use names::open;
 use pool::read_record;
 use protocol::Answer;
 use protocol::Command;
+use questions::with_value;
 use updates::delete;
 use updates::insert;
 
 // Does what a command says, and answers it.
 pub fn change(pool: &mut [u8], c: Command, map: &mut [u8]) -> Answer
     requires { ⌜ Ready (now pool) (now map) × (statusIn (now pool) c ≡ 0) × (c .code ≤ deleteCode) ⌝ }
-    ensures { λ r. ⌜ Stepped (now (pool .entry)) c r (now (pool .exit)) (now (map .entry)) (now (map .exit)) ⌝ }
+    ensures { λ r. ⌜ Stepped (now (pool .entry)) c r (now (pool .exit)) (now (map .exit)) ⌝ }
 {
     if c.code == Command::OPEN {
         return open_name(pool, c, map);
@@ -32,7 +32,7 @@ pub fn change(pool: &mut [u8], c: Command, map: &mut [u8]) -> Answer
 
 fn open_name(pool: &mut [u8], c: Command, map: &mut [u8]) -> Answer
     requires { ⌜ Ready (now pool) (now map) × (statusIn (now pool) c ≡ 0) × (c .code ≡ openCode) ⌝ }
-    ensures { λ r. ⌜ Stepped (now (pool .entry)) c r (now (pool .exit)) (now (map .entry)) (now (map .exit)) ⌝ }
+    ensures { λ r. ⌜ Stepped (now (pool .entry)) c r (now (pool .exit)) (now (map .exit)) ⌝ }
 {
     open(pool, c.name as usize, c.symbol, c.number as usize, map);
     with_value(c, 0)
@@ -40,7 +40,7 @@ fn open_name(pool: &mut [u8], c: Command, map: &mut [u8]) -> Answer
 
 fn close_name(pool: &mut [u8], c: Command, map: &mut [u8]) -> Answer
     requires { ⌜ Ready (now pool) (now map) × (statusIn (now pool) c ≡ 0) × (c .code ≡ closeCode) ⌝ }
-    ensures { λ r. ⌜ Stepped (now (pool .entry)) c r (now (pool .exit)) (now (map .entry)) (now (map .exit)) ⌝ }
+    ensures { λ r. ⌜ Stepped (now (pool .entry)) c r (now (pool .exit)) (now (map .exit)) ⌝ }
 {
     close(pool, c.name as usize, map);
     with_value(c, 0)
@@ -48,7 +48,7 @@ fn close_name(pool: &mut [u8], c: Command, map: &mut [u8]) -> Answer
 
 fn insert_mark(pool: &mut [u8], c: Command, map: &mut [u8]) -> Answer
     requires { ⌜ Ready (now pool) (now map) × (statusIn (now pool) c ≡ 0) × (c .code ≡ insertCode) ⌝ }
-    ensures { λ r. ⌜ Stepped (now (pool .entry)) c r (now (pool .exit)) (now (map .entry)) (now (map .exit)) ⌝ }
+    ensures { λ r. ⌜ Stepped (now (pool .entry)) c r (now (pool .exit)) (now (map .exit)) ⌝ }
 {
     let found = read_record(pool, c.name as usize);
     insert(pool, c.name as usize, c.number as usize, c.symbol, map);
@@ -57,7 +57,7 @@ fn insert_mark(pool: &mut [u8], c: Command, map: &mut [u8]) -> Answer
 
 fn delete_mark(pool: &mut [u8], c: Command, map: &mut [u8]) -> Answer
     requires { ⌜ Ready (now pool) (now map) × (statusIn (now pool) c ≡ 0) × (c .code ≡ deleteCode) ⌝ }
-    ensures { λ r. ⌜ Stepped (now (pool .entry)) c r (now (pool .exit)) (now (map .entry)) (now (map .exit)) ⌝ }
+    ensures { λ r. ⌜ Stepped (now (pool .entry)) c r (now (pool .exit)) (now (map .exit)) ⌝ }
 {
     let found = read_record(pool, c.name as usize);
     let mark = delete(pool, c.name as usize, c.number as usize, map);

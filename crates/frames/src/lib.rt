@@ -1,19 +1,17 @@
 // One frame executed on a sound pool: its status by document 01's tests, and where none applies, what the command asks.
 ghost use Rattle.frames.specs.Steps.{Ready, Stepped};
 use crate::changes::change;
-use crate::queries::ask;
-use crate::statuses::status_of;
 use protocol::Answer;
 use protocol::Command;
+use questions::ask;
+use statuses::status_of;
 
 mod changes;
-mod queries;
-mod statuses;
 
 // Answers one command and does what it says, or refuses it.
 pub fn execute(pool: &mut [u8], c: Command, map: &mut [u8]) -> Answer
     requires { ⌜ Ready (now pool) (now map) ⌝ }
-    ensures { λ r. ⌜ Stepped (now (pool .entry)) c r (now (pool .exit)) (now (map .entry)) (now (map .exit)) ⌝ }
+    ensures { λ r. ⌜ Stepped (now (pool .entry)) c r (now (pool .exit)) (now (map .exit)) ⌝ }
 {
     let status = status_of(pool, c);
     if status != 0 {

@@ -1,5 +1,4 @@
 pub mod Following
-pub mod Keeping
 pub mod Outcomes
 pub mod Cutting
 pub mod Progress

@@ -56,7 +56,7 @@ module _ (p m commands room : List ℕ) (given : FramesReady p m commands room) 
     map-stays = omega (arith, pool-stays, so-far .ready .map .blocks, given .ready .map .blocks)
 
     module _ (c : Command) (a : Answer) (q′ map′ filled′ : List ℕ) (more : k < length commands / frameSize)
-        (is : c ≡ commandAt commands k) (step : Stepped q c a q′ map map′)
+        (is : c ≡ commandAt commands k) (step : Stepped q c a q′ map′)
         (put : filled′ ≡ paste filled (frameSize * k) (bytesOfAnswer a) frameSize) where
       -- the answers written so far
       before : List ℕ

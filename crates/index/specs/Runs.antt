@@ -1,7 +1,7 @@
 -- Frames in order, each from the pool that the one before it left.
 -- Assumes nothing.
 use mathlib.Core.Path.{_≡_}
-use mathlib.Core.List.{List, [], _∷_}
+use mathlib.Core.List.{List, [], _∷_, map}
 use Prim.Native.Nat.{ℕ, _*_, _/_}
 use lib.ListN.{length, take, drop}
 use Rattle.geometry.specs.Limits.{frameSize}
@@ -25,6 +25,10 @@ abbrev pub Runs : List ℕ → List Command → List Answer → List ℕ → Typ
 Runs p [] answers q = (answers ≡ []) × (q ≡ p)
 Runs p (c ∷ cs) answers q = First p c answers (λ middle behind. Runs middle cs behind q)
 
+-- a buffer cut into frames of eight bytes
+unfoldable pub eights : List ℕ → List (List ℕ)
+eights bytes = from (λ k. take frameSize (drop (frameSize * k) bytes)) 0 (length bytes / frameSize)
+
 -- the commands that stand one behind the other in so many bytes
 unfoldable pub commandsIn : List ℕ → List Command
-commandsIn bytes = from (λ k. commandOf (take frameSize (drop (frameSize * k) bytes))) 0 (length bytes / frameSize)
+commandsIn bytes = map commandOf (eights bytes)

@@ -57,7 +57,7 @@ module _ (p p′ m n : List ℕ) (name : ℕ) (ready : CloseReady p m name) (put
   turns : (x : ℕ) → Turns (name + 1) (getD m x 0) (getD n x 0)
   turns x = ⊎-elim (λ w. inr (inr (freed .freed x (w .0)))) (λ w. inl (freed .others x (w .0))) (isMark-cases (name + 1) (getD m x 0))
 
-  pub closed-updated : Updated name closed p p′ m n
+  pub closed-updated : Updated name closed p p′ n
   closed-updated =
       let low : name < names = ready .within .low in
       let others : (y : ℕ) → y < names → (y ≡ name → ⊥) → Untouched y p p′

@@ -31,7 +31,6 @@ use Rattle.pool.proofs.Sums.{sumBelow-same, sumBelow-one, sumBelow-two}
 use Rattle.sound.proofs.Holders.{times-held, name-inside}
 use Rattle.sound.proofs.Readings.{zero-free, held-by}
 use Rattle.edit.specs.Maps.{isFree, freeIn, Entered, Agrees}
-use Rattle.removal.specs.Frees.{Freed}
 use Rattle.names.specs.Updates.{Exact}
 
 -- Counts as sums over places.
@@ -110,11 +109,6 @@ module _ (p m : List ℕ) (exact : Exact p m) where
       ∙ sumBelow-same (shares p) (λ i. isMark 0 (getD m i 0)) (λ b. cond (isHeld p b) 0 1) (λ b low. sym (missing-free b low))
 
   module _ (sound : Sound p) where
-    -- and by no other
-    pub marked-once : (b : ℕ) → b < shares p → (x y : ℕ) → x < names → y < names → (x ≡ y → ⊥) → getD m b 0 ≡ x + 1 → count b (blocksOf p y) ≡ 0
-    marked-once b low x y lx ly other marked =
-        omega (arith, marked-held b low x lx marked, held-two p b x y lx ly other, sound .apart b)
-
     pub block-byte : (b name : ℕ) → name < names → 1 ≤ count b (blocksOf p name) → getD m b 0 ≡ name + 1
     block-byte b name low here =
         exact .holders .held b name
@@ -203,9 +197,6 @@ module _ (p p′ m n : List ℕ) (name : ℕ) (low : name < names) (sound : Soun
       };
     }
 
--- free blocks entered, and blocks freed
+-- free blocks entered
 pub entered-turns : (holder : ℕ) (m n : List ℕ) → Entered holder m n → (x : ℕ) → Turns holder (getD m x 0) (getD n x 0)
 entered-turns holder m n entered x = ⊎-elim (λ same. inl same) (λ w. inr (inl w)) (entered .each x)
-
-pub freed-turns : (holder : ℕ) (m n : List ℕ) → Freed m n → (x : ℕ) → Turns holder (getD m x 0) (getD n x 0)
-freed-turns holder m n freed x = ⊎-elim (λ same. inl same) (λ zero. inr (inr zero)) (freed .each x)

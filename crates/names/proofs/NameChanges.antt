@@ -68,7 +68,7 @@ module _ (p p′ m n : List ℕ) (name : ℕ) (low : name < names) (sound : Soun
     (map-long : length n ≡ length m) (each : (x : ℕ) → Turns (name + 1) (getD m x 0) (getD n x 0)) where
   pub updated : ((j : ℕ) → j < headerSize → byte p′ j ≡ byte p j) → ClosedName p′ name ⊎ OpenName p′ name
       → recordOf p′ name .q ≤ unpromisedShares p + recordOf p name .q
-      → (part : Part Tree) → meaningOf p′ name ≡ part → Updated name part p p′ m n
+      → (part : Part Tree) → meaningOf p′ name ≡ part → Updated name part p p′ n
   updated header again room part means = record {
     long = pool-long;
     sound =

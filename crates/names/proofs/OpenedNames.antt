@@ -96,7 +96,7 @@ module _ (p q r m n : List ℕ) (name alphabet promise root : ℕ) (ready : Open
   others-now : (y : ℕ) → y < names → (y ≡ name → ⊥) → Untouched y p r
   others-now = others-untouched p q r name low (λ b. b ≡ root) unheld (empty .only) put written
 
-  pub opened-updated : Updated name (opened alphabet promise emptyT) p r m n
+  pub opened-updated : Updated name (opened alphabet promise emptyT) p r n
   opened-updated =
       updated p r m n name low (ready .within .sound) (ready .within .map) block-entered others-now long
       (taken-long (name + 1) root m n (omega arith) taken)

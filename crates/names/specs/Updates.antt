@@ -39,12 +39,12 @@ pub record CloseReady (p m : List ℕ) (name : ℕ) : Type 0 where
   pub within : NameIn p m name
   pub opened : OpenName p name
 
--- the name has this part now, and nothing else changed: p and m are the pool and the map before, q and n after
-pub record Updated (name : ℕ) (part : Part Tree) (p q m n : List ℕ) : Type 0 where
+-- the name has this part now, and nothing else changed: p is the pool before, q after, and n the map after
+pub record Updated (name : ℕ) (part : Part Tree) (p q n : List ℕ) : Type 0 where
   pub long : length q ≡ length p
   pub sound : Sound q
   pub means : meaningOf q name ≡ part
   -- every other name's record and blocks have the bytes that they had
   pub others : (y : ℕ) → y < names → (y ≡ name → ⊥) → Untouched y p q
-  -- the map is exact again
+  -- the map is exact
   pub map : Exact q n

@@ -8,7 +8,7 @@ use pool::write_record;
 // Closes a name.
 pub fn close(pool: &mut [u8], name: usize, map: &mut [u8])
     requires { ⌜ CloseReady (now pool) (now map) name ⌝ }
-    ensures { λ _. ⌜ Updated name closed (now (pool .entry)) (now (pool .exit)) (now (map .entry)) (now (map .exit)) ⌝ }
+    ensures { λ _. ⌜ Updated name closed (now (pool .entry)) (now (pool .exit)) (now (map .exit)) ⌝ }
 {
     write_record(pool, name, Record::closed());
     free_holder(map, (name + 1) as u8);

@@ -14,7 +14,7 @@ use pool::write_record;
 // Opens a name for marks of an alphabet, with the promise of q shares.
 pub fn open(pool: &mut [u8], name: usize, alphabet: u8, q: usize, map: &mut [u8])
     requires { ⌜ OpenReady (now pool) (now map) name alphabet q ⌝ }
-    ensures { λ _. ⌜ Updated name (opened alphabet q emptyT) (now (pool .entry)) (now (pool .exit)) (now (map .entry)) (now (map .exit)) ⌝ }
+    ensures { λ _. ⌜ Updated name (opened alphabet q emptyT) (now (pool .entry)) (now (pool .exit)) (now (map .exit)) ⌝ }
 {
     let root = take_block(map, (name + 1) as u8);
     empty_leaf(pool, root);

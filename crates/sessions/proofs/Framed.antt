@@ -15,7 +15,7 @@ use Rattle.hex.specs.declared.read.Reading.{Reading}
 use Rattle.hex.specs.declared.read.Reading.the-variants.{Frame, Bad}
 use Rattle.hex.proofs.Frames.{all-digits-part}
 use Rattle.hex.proofs.Numbers.{second-of-both, number-fits}
-use Rattle.index.specs.Runs.{commandsIn}
+use Rattle.index.specs.Runs.{eights, commandsIn}
 use Rattle.index.proofs.Cutting.{commands-append}
 use Rattle.pool.specs.Bytes.{from}
 use Rattle.protocol.specs.Frames.{commandOf, eightBytes, bytesOfCommand, Fitting}
@@ -70,12 +70,12 @@ fits-line line = go (isFrame line) (λ is. second-of-both (eqb (length line) lin
 
 -- eight bytes are one command
 one-command : (bytes : List ℕ) → length bytes ≡ frameSize → commandsIn bytes ≡ commandOf bytes ∷ []
-unfolding commandsIn from
+unfolding commandsIn eights from
 one-command bytes long = rw long (ap (λ l. commandOf l ∷ []) (take-all frameSize bytes (omega arith)))
 
 -- the bytes of lines are the commands of their frames
 pub commands-in-batch : (rs : List Reading) → AllFit rs → commandsIn (joined bytesOf rs) ≡ commandsOf rs
-unfolding commandsIn from bytesOfCommand
+unfolding commandsIn eights from bytesOfCommand
 commands-in-batch [] fits = refl
 commands-in-batch (Frame code name symbol fourth number ∷ rs) fits =
     let bytes : List ℕ = eightBytes code name symbol fourth number in

@@ -2,11 +2,11 @@
 -- Assumes nothing.
 use mathlib.Core.Path.{_≡_, refl, ap}
 use mathlib.Core.List.{List}
-use mathlib.Core.Logic.{⊎-elim}
+use mathlib.Core.Logic.{inl, inr, ⊎-elim}
 use Prim.Native.Nat.{ℕ, _+_, _-_, _≤_, _<_}
 use native.Mathlib.Nat.{eq-zero-or-pos}
 use native.Mathlib.Omega.{arith}
-use lib.ListN.{length}
+use lib.ListN.{length, getD}
 use Rattle.geometry.specs.declared.Record.{Record}
 use Rattle.sequence.proofs.Edits.{length-insert, length-delete, allBelow-insert, allBelow-delete}
 use Rattle.sequence.specs.Definition1.{count, insert, delete}
@@ -24,7 +24,8 @@ use Rattle.pool.specs.Words.{wordLimit}
 use Rattle.edit.specs.Maps.{isFree}
 use Rattle.edit.specs.Trees.{TreeReady, TreeInserted}
 use Rattle.edit.specs.declared.tree.Rooted.{Rooted}
-use Rattle.names.proofs.ExactMaps.{entered-turns, freed-turns}
+use Rattle.names.proofs.ExactMaps.{Turns, entered-turns}
+use Rattle.removal.specs.Frees.{Freed}
 use Rattle.removal.specs.Removals.{DeleteReady}
 use Rattle.removal.specs.Trees.{TreeDeleted}
 use Rattle.removal.specs.declared.tree.Removed.{Removed}
@@ -70,6 +71,11 @@ module _ (p q m n : List ℕ) (name i c : ℕ) (at : InsertAt p m name i c) (g :
       }
 
 -- A delete.
+
+-- what becomes of the bytes of blocks freed
+freed-turns : (holder : ℕ) (m n : List ℕ) → Freed m n → (x : ℕ) → Turns holder (getD m x 0) (getD n x 0)
+freed-turns holder m n freed x = ⊎-elim (λ same. inl same) (λ zero. inr (inr zero)) (freed .each x)
+
 module _ (p q m n : List ℕ) (name i : ℕ) (at : DeleteAt p m name i) (g : Removed)
     (del : TreeDeleted (recordOf p name .height) (recordOf p name .root) i g p q m n) where
   delete-changed : TreeChanged name (deleteT oneToAByte i (treeOf p name)) (g .level) (g .root) p q m n
@@ -111,7 +117,7 @@ module _ (p m : List ℕ) (name : ℕ) (old : Record) (is : old ≡ recordOf p n
           storable p q m n name (at .within) (at .opened) _ (g .level) (g .root) _
           (insert-changed p q m n name i c at g inserted-in) (insert-fits p q m n name i c at g inserted-in)
 
-      pub inserted-at : (r : List ℕ) → PutRecord name (withTree old (g .level) (g .root) (old .length + 1)) q r → InsertedAt name i c p r m n
+      pub inserted-at : (r : List ℕ) → PutRecord name (withTree old (g .level) (g .root) (old .length + 1)) q r → InsertedAt name i c p r n
       inserted-at r put =
           tree-stored p q m n name (at .within) (at .opened) _ (g .level) (g .root) _
           (insert-changed p q m n name i c at g inserted-in) (insert-fits p q m n name i c at g inserted-in) r (rw is at put) (insertT oneToAByte c i) refl
@@ -132,7 +138,7 @@ module _ (p m : List ℕ) (name : ℕ) (old : Record) (is : old ≡ recordOf p n
           storable p q m n name (at .within) (at .opened) _ (g .level) (g .root) _
           (delete-changed p q m n name i at g deleted-in) (delete-fits p q m n name i at g deleted-in)
 
-      pub deleted-at : (r : List ℕ) → PutRecord name (withTree old (g .level) (g .root) (old .length - 1)) q r → DeletedAt name i (g .mark) p r m n
+      pub deleted-at : (r : List ℕ) → PutRecord name (withTree old (g .level) (g .root) (old .length - 1)) q r → DeletedAt name i (g .mark) p r n
       deleted-at r put =
           record {
             taken = deleted-in .taken;

@@ -142,7 +142,7 @@ module _ (p q m n : List ℕ) (name : ℕ) (within : NameIn p m name) (old : Ope
     own b either =
         own-or-free-in p m (within .map) (within .sound) name (within .low) b (omega (arith, ap (count b) (open-blocks p name old)))
 
-    pub tree-stored : (edit : Tree → Tree) → t ≡ edit (treeOf p name) → Updated name (edited edit (meaningOf p name)) p r m n
+    pub tree-stored : (edit : Tree → Tree) → t ≡ edit (treeOf p name) → Updated name (edited edit (meaningOf p name)) p r n
     tree-stored edit done =
         let These : ℕ → Type 0 = λ x. 1 ≤ count x (blocksBelow p name) + isFree m x in
         let put-in : Record = withTree (recordOf p name) level root marks in

@@ -30,10 +30,10 @@ pub record DeleteAt (p m : List ℕ) (name i : ℕ) : Type 0 where
   pub last : i ≤ recordOf p name .length
 
 -- it was put in, as the machine does
-abbrev pub InsertedAt : ℕ → ℕ → ℕ → List ℕ → List ℕ → List ℕ → List ℕ → Type 0
-InsertedAt name i c p q m n = Updated name (edited (insertT oneToAByte c i) (meaningOf p name)) p q m n
+abbrev pub InsertedAt : ℕ → ℕ → ℕ → List ℕ → List ℕ → List ℕ → Type 0
+InsertedAt name i c p q n = Updated name (edited (insertT oneToAByte c i) (meaningOf p name)) p q n
 
 -- it was taken out, as the machine does, and r is the mark that stood there
-pub record DeletedAt (name i r : ℕ) (p q m n : List ℕ) : Type 0 where
+pub record DeletedAt (name i r : ℕ) (p q n : List ℕ) : Type 0 where
   pub taken : r ≡ access (marksT (treeOf p name)) i
-  pub updated : Updated name (edited (deleteT oneToAByte i) (meaningOf p name)) p q m n
+  pub updated : Updated name (edited (deleteT oneToAByte i) (meaningOf p name)) p q n

@@ -16,7 +16,7 @@ use removal::delete_in_tree;
 // Puts c in at place i of a name. Blocks that its tree takes are entered in the map as name + 1.
 pub fn insert(pool: &mut [u8], name: usize, i: usize, c: u8, map: &mut [u8])
     requires { ⌜ InsertAt (now pool) (now map) name i c ⌝ }
-    ensures { λ _. ⌜ InsertedAt name i c (now (pool .entry)) (now (pool .exit)) (now (map .entry)) (now (map .exit)) ⌝ }
+    ensures { λ _. ⌜ InsertedAt name i c (now (pool .entry)) (now (pool .exit)) (now (map .exit)) ⌝ }
 {
     let old = read_record(pool, name);
     let rooted = insert_in_tree(
@@ -34,7 +34,7 @@ pub fn insert(pool: &mut [u8], name: usize, i: usize, c: u8, map: &mut [u8])
 // Takes place i out of a name, and answers the mark that stood there. Blocks that leave its tree are free in the map.
 pub fn delete(pool: &mut [u8], name: usize, i: usize, map: &mut [u8]) -> u8
     requires { ⌜ DeleteAt (now pool) (now map) name i ⌝ }
-    ensures { λ r. ⌜ DeletedAt name i r (now (pool .entry)) (now (pool .exit)) (now (map .entry)) (now (map .exit)) ⌝ }
+    ensures { λ r. ⌜ DeletedAt name i r (now (pool .entry)) (now (pool .exit)) (now (map .exit)) ⌝ }
 {
     let old = read_record(pool, name);
     let removed = delete_in_tree(pool, old.height as usize, old.root as usize, i, map);

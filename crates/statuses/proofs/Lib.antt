@@ -1,0 +1,5 @@
+pub mod Codes
+pub mod Parts
+pub mod Forms
+pub mod Tests
+pub mod Refused
