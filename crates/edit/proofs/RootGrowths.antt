@@ -5,37 +5,31 @@ use mathlib.Core.List.{List, [], _∷_, map}
 use Prim.Native.Nat.{ℕ, _+_, _≤_, _<_}
 use native.Mathlib.Omega.{arith}
 use lib.ListN.{length}
-use Rattle.geometry.specs.Layout.{formAt, countAt, formMarks, mostBranch}
+use Rattle.geometry.specs.Layout.{mostBranch}
 use Rattle.sequence.proofs.Counts.{isMark-same}
 use Rattle.sequence.specs.Definition1.{count}
 use Rattle.sequence.specs.Items.{All}
 use Rattle.shape.specs.Nested.{joined}
 use Rattle.shape.specs.Sizes.{oneToAByte, most}
-use Rattle.pool.proofs.Changed.{only-block, only-then, only-wider}
+use Rattle.pool.proofs.Changed.{only-then, only-wider}
 use Rattle.pool.proofs.Lists.{joined-map}
 use Rattle.pool.specs.Blocks.{entries}
-use Rattle.pool.specs.Bytes.{shares, blockAt, from}
+use Rattle.pool.specs.Bytes.{shares, from}
 use Rattle.pool.specs.Trees.{shapeAt, blocksAt}
-use Rattle.pool.specs.Words.{wordLimit, PutByte, PutWord}
+use Rattle.pool.specs.Words.{wordLimit}
 use Rattle.blocks.proofs.Branches.{entries-length}
-use Rattle.blocks.proofs.Parts.{trailer-put}
 use Rattle.blocks.specs.Contents.{linkIn, entryBytes, entryList, BranchAt}
-use Rattle.blocks.specs.Moves.{PutTrailer}
+use Rattle.blocks.specs.Moves.{Emptied}
 use Rattle.entries.specs.Summaries.{SummaryOf, SmallSums}
 use Rattle.entries.specs.declared.Summary.{Summary}
 use Rattle.edit.specs.Entries.{putAt}
 use Rattle.edit.specs.Grafts.{EntryPut}
 use Rattle.edit.specs.Maps.{isFree, Taken}
-use Rattle.edit.specs.Roots.{Emptied, PairWritten, RootReady, RootGrown}
+use Rattle.edit.specs.Roots.{PairWritten, RootReady, RootGrown}
 use Rattle.edit.proofs.GoodEntries.{GoodEntry, shapeIn, blocksIn, good-below, shape-entries, blocks-entries}
 use Rattle.edit.proofs.KeptLists.{KeptList, kept-list}
 use Rattle.edit.proofs.Maps.{taken-one, taken-free, taken-blocks, taken-entered}
 use Rattle.edit.proofs.TakeUps.{holds-true, summary-ready}
-
-pub emptied : (b : ℕ) (p q r : List ℕ) → b < shares p → PutByte (blockAt b + formAt) formMarks p q → PutWord (blockAt b + countAt) 0 q r → Emptied b p r
-emptied b p q r inside byte word =
-    let put : PutTrailer b 0 p r = trailer-put b 0 p q r byte word in
-    record { only = only-block (put .same) b (omega arith) (omega arith); form = put .form; many = put .many }
 
 module _ (b left right : ℕ) (first second : Summary) (p q : List ℕ) (inside : b < shares p) (empty : Emptied b p q) where
   pub first-ready : left < wordLimit → BranchAt q b × (0 ≤ entries q b) × (entries q b < mostBranch) × (left < wordLimit)
