@@ -2,10 +2,9 @@
 -- Assumes nothing.
 use mathlib.Core.Path.{_≡_, refl, sym, ap, ap₂, subst, _∙_}
 use mathlib.Core.List.{List, [], _∷_, map}
-use Prim.Native.Nat.{ℕ, _+_, _≤_, _<_}
+use Prim.Native.Nat.{ℕ, _≤_, _<_}
 use native.Mathlib.Omega.{arith}
 use lib.ListN.{length}
-use Rattle.geometry.specs.Layout.{mostBranch}
 use Rattle.sequence.proofs.Counts.{isMark-same}
 use Rattle.sequence.specs.Definition1.{count}
 use Rattle.sequence.specs.Items.{All}
@@ -16,9 +15,8 @@ use Rattle.pool.proofs.Lists.{joined-map}
 use Rattle.pool.specs.Blocks.{entries}
 use Rattle.pool.specs.Bytes.{shares, from}
 use Rattle.pool.specs.Trees.{shapeAt, blocksAt}
-use Rattle.pool.specs.Words.{wordLimit}
 use Rattle.blocks.proofs.Branches.{entries-length}
-use Rattle.blocks.specs.Contents.{linkIn, entryBytes, entryList, BranchAt}
+use Rattle.blocks.specs.Contents.{linkIn, entryBytes, entryList}
 use Rattle.blocks.specs.Moves.{Emptied}
 use Rattle.entries.specs.Summaries.{SummaryOf, SmallSums}
 use Rattle.entries.specs.declared.Summary.{Summary}
@@ -32,23 +30,7 @@ use Rattle.edit.proofs.Maps.{taken-one, taken-free, taken-blocks, taken
 use Rattle.edit.proofs.TakeUps.{holds-true, summary-ready}
 
 module _ (b left right : ℕ) (first second : Summary) (p q : List ℕ) (inside : b < shares p) (empty : Emptied b p q) where
-  pub first-ready : left < wordLimit → BranchAt q b × (0 ≤ entries q b) × (entries q b < mostBranch) × (left < wordLimit)
-  first-ready small = (
-    record { inside = omega (arith, empty .only .long); fits = omega (arith, empty .many) },
-    omega arith,
-    omega (arith, empty .many),
-    small,
-  )
-
   module _ (r : List ℕ) (put : EntryPut b 0 left first q r) where
-    pub second-ready : right < wordLimit → BranchAt r b × (1 ≤ entries r b) × (entries r b < mostBranch) × (right < wordLimit)
-    second-ready small = (
-      record { inside = omega (arith, empty .only .long, put .only .long); fits = omega (arith, empty .many, put .many) },
-      omega (arith, empty .many, put .many),
-      omega (arith, empty .many, put .many),
-      small,
-    )
-
     pub pair-written : (t : List ℕ) → EntryPut b 1 right second r t → PairWritten b left right first second p t
     unfolding entryList from
     pair-written t last =
@@ -72,13 +54,6 @@ module _ (p m : List ℕ) (h left right holder : ℕ) (ready : RootReady p m h l
   right-ready = summary-ready p h right (ready .rightSound) (omega (arith, ready .short))
 
   module _ (root : ℕ) (n : List ℕ) (taken : Taken holder root m n) where
-    pub pair-ready : (root < shares p) × (left < wordLimit) × (right < wordLimit)
-    pair-ready = (
-      omega (arith, taken .inside, ready .map .blocks),
-      omega (arith, ready .leftSound .0 .inside, ready .map .longest),
-      omega (arith, ready .rightSound .0 .inside, ready .map .longest),
-    )
-
     module _ (first second : Summary) (firstOf : SummaryOf p h left first) (secondOf : SummaryOf p h right second) (q : List ℕ)
         (pair : PairWritten root left right first second p q) where
       links : map linkIn (pair .one ∷ pair .two ∷ []) ≡ left ∷ right ∷ []
