@@ -10,19 +10,16 @@ use lib.Seq.{length-take-le, take-at, drop-append-add, set-split}
 use Rattle.geometry.specs.Layout.{countAt, entrySize, entryMarksAt, entryCountsAt, wordSize, mostBranch}
 use Rattle.geometry.specs.Limits.{mostAlphabet}
 use Rattle.shape.specs.Level.{middle, halves}
-use Rattle.shape.specs.Nested.{joined}
 use Rattle.shape.proofs.Choice.{by-leb}
 use Rattle.pool.specs.Blocks.{entries, entryAt, link, marksBelow, countBelow, children}
 use Rattle.pool.specs.Bytes.{word, shares, blockAt, from}
-use Rattle.pool.specs.Changes.{Outside, Only}
-use Rattle.pool.specs.Sound.{SoundBlock}
-use Rattle.pool.proofs.Changed.{word-behind, word-other}
+use Rattle.pool.specs.Changes.{Outside}
+use Rattle.pool.proofs.Changed.{word-behind}
 use Rattle.pool.proofs.Cuts.{cut-length, cut-word, cut-before, cut-behind}
-use Rattle.blocks.specs.Contents.{contents, entryBytes, entryList, linkIn, belowIn, countIn, Room, BranchAt}
+use Rattle.blocks.specs.Contents.{contents, entryBytes, entryList, linkIn, belowIn, countIn, BranchAt}
 use Rattle.blocks.specs.Moves.{Opened, Closed, CutOff, Joined, SharedOut}
 use Rattle.blocks.specs.Branches.{EntryOpened, EntryRemoved, BranchCut, BranchesJoined, BranchesShared}
-use Rattle.blocks.proofs.Stretches.{contents-other}
-use Rattle.blocks.proofs.Chunks.{chunks, chunks-from, chunks-one, chunks-append, chunks-take, chunks-drop, chunks-joined}
+use Rattle.blocks.proofs.Chunks.{chunks, chunks-from, chunks-one, chunks-append, chunks-take, chunks-drop}
 use Rattle.pool.proofs.Froms.{length-from, getD-from-start, from-same, from-set, map-from}
 
 -- what an entry's bytes say is what the block says
@@ -38,17 +35,6 @@ module _ (p : List ℕ) (b k : ℕ) where
   entry-count c h =
       let e : entryAt b k + (entryCountsAt + wordSize * c) ≡ entryAt b k + entryCountsAt + wordSize * c = omega arith in
       cut-word p (entryAt b k) entrySize (entryCountsAt + wordSize * c) (omega arith) ∙ ap (word p) e
-
--- entries of the same bytes say the same
-module _ (p q : List ℕ) (b b' k k' : ℕ) (same : entryBytes q b' k' ≡ entryBytes p b k) where
-  pub same-link : link q b' k' ≡ link p b k
-  same-link = sym (entry-link q b' k') ∙ ap linkIn same ∙ entry-link p b k
-
-  pub same-below : marksBelow q b' k' ≡ marksBelow p b k
-  same-below = sym (entry-below q b' k') ∙ ap belowIn same ∙ entry-below p b k
-
-  pub same-count : (c : ℕ) → c < mostAlphabet → countBelow q b' k' c ≡ countBelow p b k c
-  same-count c h = sym (entry-count q b' k' c h) ∙ ap (λ (e : List ℕ). countIn e c) same ∙ entry-count p b k c h
 
 module _ (p : List ℕ) (b : ℕ) where
   pub entries-length : length (entryList p b) ≡ entries p b
@@ -79,10 +65,6 @@ module _ (p : List ℕ) (b : ℕ) (branch : BranchAt p b) where
       chunks-from entrySize (blockAt b) p 0 (entries p b) (omega (arith, branch .inside, branch .fits))
       ∙ ap (λ (a : ℕ). chunks entrySize (entries p b) (take (entrySize * entries p b) (drop a p))) e
 
-  pub entries-joined : joined (λ entry. entry) (entryList p b) ≡ contents entrySize p b
-  entries-joined =
-      ap (joined (λ entry. entry)) entries-chunks ∙ chunks-joined entrySize (entries p b) (contents entrySize p b) contents-length
-
   pub entries-take : (k : ℕ) → k ≤ entries p b → take k (entryList p b) ≡ chunks entrySize k (take (entrySize * k) (contents entrySize p b))
   entries-take k h =
       let e : entries p b ≡ k + (entries p b - k) = omega arith in
@@ -99,24 +81,6 @@ module _ (p : List ℕ) (b : ℕ) (branch : BranchAt p b) where
   -- the list after a change, by the bytes after it
   pub entries-are : (n : ℕ) (xs : List ℕ) → entries p b ≡ n → contents entrySize p b ≡ xs → entryList p b ≡ chunks entrySize n xs
   entries-are n xs many bytes = entries-chunks ∙ ap₂ (λ (m : ℕ) (z : List ℕ). chunks entrySize m z) many bytes
-
--- a sound block above level 0 is a branch
-pub branch-sound : (p : List ℕ) (fewest h b : ℕ) → SoundBlock p fewest (suc h) b → BranchAt p b
-branch-sound p fewest h b sound = record { inside = sound .inside; fits = sound .fits }
-
--- a change of other blocks leaves its entries alone
-pub entries-other : {These : ℕ → Type 0} {p q : List ℕ} → Only These p q → (b : ℕ) → (These b → ⊥) → BranchAt p b
-    → entryList q b ≡ entryList p b
-entries-other {p = p} {q = q} o b other branch =
-    let many : entries q b ≡ entries p b = word-other o b countAt other (omega arith) in
-    let after : BranchAt q b =
-    record { inside = omega (arith, branch .inside, o .long); fits = omega (arith, branch .fits) }
-    in
-    let room : Room entrySize (entries p b) =
-    record { few = omega (arith, branch .fits); fits = omega (arith, branch .fits) }
-    in
-    entries-are q b after (entries p b) (contents entrySize p b) many (contents-other o b other entrySize room)
-    ∙ sym (entries-chunks p b branch)
 
 -- one entry written, and one written into a gap
 

@@ -7,7 +7,6 @@ use native.Mathlib.Nat.{zero-add}
 use native.Mathlib.Omega.{arith}
 use lib.ListN.{length, take, drop, length-drop, take-append-drop}
 use lib.Seq.{length-take-le, take-all, take-take, take-append-le, drop-append-le, take-at, drop-at}
-use Rattle.shape.specs.Nested.{joined}
 use Rattle.pool.specs.Bytes.{from}
 use Rattle.blocks.proofs.Stretches.{drop-stretch}
 
@@ -64,12 +63,3 @@ module _ (unit n m : ℕ) (xs : List ℕ) (long : length xs ≡ unit * (n + m)) 
 
   pub chunks-drop : drop n (chunks unit (n + m) xs) ≡ chunks unit m (drop (unit * n) xs)
   chunks-drop = ap (drop n) chunks-two ∙ drop-at (chunks unit n (take (unit * n) xs)) _ n (chunks-length unit n (take (unit * n) xs))
-
--- the chunks joined again are the row
-pub chunks-joined : (unit many : ℕ) (xs : List ℕ) → length xs ≡ unit * many → joined (λ chunk. chunk) (chunks unit many xs) ≡ xs
-unfolding chunks
-chunks-joined unit zero [] long = refl
-chunks-joined unit zero (x ∷ xs) long = absurd (omega arith)
-chunks-joined unit (suc many) xs long =
-    ap (λ (zs : List ℕ). take unit xs ++ zs) (chunks-joined unit many (drop unit xs) (omega (arith, length-drop unit xs)))
-    ∙ take-append-drop unit xs

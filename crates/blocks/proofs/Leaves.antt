@@ -11,15 +11,13 @@ use Rattle.sequence.specs.Definition1.{access, select, insert, delete}
 use Rattle.shape.specs.Level.{middle, halves}
 use Rattle.pool.specs.Blocks.{entries, leafMarks}
 use Rattle.pool.specs.Bytes.{byte, blockAt}
-use Rattle.pool.specs.Changes.{Outside, Only}
-use Rattle.pool.specs.Sound.{SoundBlock}
+use Rattle.pool.specs.Changes.{Outside}
 use Rattle.pool.specs.Words.{WordAt, PutByte}
 use Rattle.pool.proofs.Changed.{only-block, only-then, word-behind}
 use Rattle.pool.proofs.Cuts.{cut-length, cut-byte, cut-one}
 use Rattle.blocks.specs.Contents.{contents, LeafAt}
 use Rattle.blocks.specs.Moves.{Opened, Closed, CutOff, Joined, SharedOut}
 use Rattle.blocks.specs.Leaves.{MarkInserted, MarkDeleted, LeafCut, LeavesJoined, LeavesShared}
-use Rattle.blocks.proofs.Stretches.{contents-other}
 use Rattle.blocks.proofs.Gaps.{gap-filled}
 
 -- a leaf's marks are its entries, one byte each
@@ -45,17 +43,6 @@ module _ (p : List ℕ) (b : ℕ) (leaf : LeafAt p b) where
   found-is n c j r is found =
       let e : blockAt b + n - blockAt b ≡ entries p b = omega (arith, is .is) in
       found ∙ ap (λ (k : ℕ). select c (take k (drop (blockAt b) p)) j) e
-
--- a sound block of level 0 is a leaf
-pub leaf-sound : (p : List ℕ) (fewest b : ℕ) → SoundBlock p fewest 0 b → LeafAt p b
-leaf-sound p fewest b sound = record { inside = sound .inside; fits = sound .fits }
-
--- a change of other blocks leaves its marks alone
-pub leaf-other : {These : ℕ → Type 0} {p q : List ℕ} → Only These p q → (b : ℕ) → (These b → ⊥) → LeafAt p b → leafMarks q b ≡ leafMarks p b
-leaf-other {p = p} {q = q} o b other leaf =
-    sym (leaf-contents q b)
-    ∙ contents-other o b other 1 (record { few = omega (arith, leaf .fits); fits = omega (arith, leaf .fits) })
-    ∙ leaf-contents p b
 
 -- the edits
 

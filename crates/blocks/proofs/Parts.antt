@@ -1,4 +1,4 @@
--- A block's entries cut off to another block, and those of two blocks joined.
+-- A block emptied, its entries cut off to another block, and those of two blocks joined.
 -- Assumes nothing.
 use mathlib.Core.Path.{_≡_, refl, sym, ap, ap₂, _∙_}
 use mathlib.Core.List.{List, _++_}
@@ -17,7 +17,7 @@ use Rattle.pool.specs.Words.{WordAt, PutByte, PutWord, Moved}
 use Rattle.pool.proofs.Changed.{outside-then, outside-wider, only-block, only-then, only-wider, word-other}
 use Rattle.pool.proofs.Cuts.{cut-before, cut-moved, cut-two}
 use Rattle.blocks.specs.Contents.{contents, Room, Apart}
-use Rattle.blocks.specs.Moves.{PutTrailer, CutOff, Joined}
+use Rattle.blocks.specs.Moves.{PutTrailer, Emptied, CutOff, Joined}
 use Rattle.blocks.proofs.Products.{Measured, measured}
 use Rattle.blocks.proofs.Stretches.{drop-stretch, contents-is, start-other}
 use Rattle.blocks.proofs.Gaps.{moved-only, moved-form}
@@ -33,6 +33,10 @@ trailer-put b many p q r form count =
       form = count .same .low (blockAt b + formAt) (omega arith) ∙ form .put;
       many = count .put;
     }
+
+-- a trailer that says none
+pub emptied : (b : ℕ) (p q : List ℕ) → PutTrailer b 0 p q → Emptied b p q
+emptied b p q put = record { only = only-block (put .same) b (omega arith) (omega arith); form = put .form; many = put .many }
 
 -- a block's entries behind the first so many, moved to another block
 pub part-cut : (unit b new cut many : ℕ) (p p₁ p₂ p₃ : List ℕ)

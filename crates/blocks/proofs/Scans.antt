@@ -9,7 +9,6 @@ use native.Mathlib.Nat.{eq-zero-or-pos}
 use native.Mathlib.Omega.{arith}
 use lib.ListN.{length, take, drop}
 use lib.Seq.{take-take}
-use Rattle.geometry.specs.Layout.{countAt}
 use Rattle.geometry.specs.Limits.{blockSize}
 use Rattle.sequence.specs.Definition1.{isMark, count, rank, select}
 use Rattle.sequence.proofs.Counts.{isMark-same, isMark-other, count-take-le}
@@ -17,7 +16,6 @@ use Rattle.sequence.proofs.Ranks.{count-stretch-step}
 use Rattle.sequence.proofs.Seams.{select-right}
 use Rattle.pool.specs.Blocks.{entries, leafMarks}
 use Rattle.pool.specs.Bytes.{byte, blockAt}
-use Rattle.pool.specs.Words.{WordAt}
 use Rattle.pool.proofs.Cuts.{cut-length, cut-two}
 use Rattle.blocks.specs.Contents.{LeafAt}
 use Rattle.blocks.proofs.Leaves.{leaf-size}

@@ -1,19 +1,17 @@
 -- Stretches of bytes: parts of them, those of a block's entries, and those of a block that a change leaves alone.
 -- Assumes nothing.
-use mathlib.Core.Path.{_≡_, refl, sym, ap, _∙_}
+use mathlib.Core.Path.{_≡_, ap, _∙_}
 use mathlib.Core.List.{List, _++_}
 use Prim.Native.Nat.{ℕ, _+_, _-_, _*_, _≤_}
 use native.Mathlib.Omega.{arith}
 use lib.ListN.{length, take, drop}
 use lib.Seq.{drop-at}
-use Rattle.geometry.specs.Layout.{countAt}
 use Rattle.geometry.specs.Limits.{blockSize}
 use Rattle.pool.specs.Blocks.{entries}
 use Rattle.pool.specs.Bytes.{blockAt}
 use Rattle.pool.specs.Changes.{Only}
-use Rattle.pool.proofs.Changed.{word-other}
 use Rattle.pool.proofs.Cuts.{cut-length, cut-same, cut-two}
-use Rattle.blocks.specs.Contents.{contents, Room}
+use Rattle.blocks.specs.Contents.{contents}
 
 -- what stands behind the first n of a stretch
 pub drop-stretch : (p : List ℕ) (a n m : ℕ) → n ≤ m → a + m ≤ length p → drop n (take m (drop a p)) ≡ take (m - n) (drop (a + n) p)
@@ -43,10 +41,3 @@ module _ {These : ℕ → Type 0} {p q : List ℕ} (o : Only These p q) (b : ℕ
 
   pub start-other : (n : ℕ) → n ≤ blockSize → take n (drop (blockAt b) q) ≡ take n (drop (blockAt b) p)
   start-other n h = cut-same p q (blockAt b) n (o .long) (λ j below. o .others b other j (omega arith))
-
-  -- and so its entries
-  pub contents-other : (unit : ℕ) → Room unit (entries p b) → contents unit q b ≡ contents unit p b
-  contents-other unit room =
-      contents-is unit q b (entries p b) (unit * entries p b) (word-other o b countAt other (omega arith)) refl
-      ∙ start-other (unit * entries p b) (omega (arith, room .fits))
-      ∙ sym (contents-is unit p b (entries p b) (unit * entries p b) refl refl)

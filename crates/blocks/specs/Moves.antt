@@ -18,6 +18,12 @@ pub record PutTrailer (b put : ℕ) (before after : List ℕ) : Type 0 where
   pub form : formOf after b ≡ formMarks
   pub many : entries after b ≡ put
 
+-- the block has no entry
+pub record Emptied (b : ℕ) (before after : List ℕ) : Type 0 where
+  pub only : Only (λ x. x ≡ b) before after
+  pub form : formOf after b ≡ formMarks
+  pub many : entries after b ≡ 0
+
 -- one entry more, at number k: the entries from k on are moved up, and what stands in the gap is free
 pub record Opened (unit b k : ℕ) (before after : List ℕ) : Type 0 where
   pub only : Only (λ x. x ≡ b) before after

@@ -4,7 +4,7 @@ ghost use Rattle.pool.specs.Blocks.{entries};
 ghost use Rattle.pool.specs.Bytes.{shares};
 ghost use Rattle.pool.specs.Words.{wordLimit};
 ghost use Rattle.blocks.specs.Contents.{Room, Apart, Counted};
-ghost use Rattle.blocks.specs.Moves.{PutTrailer, Opened, Closed, CutOff, Joined, Recut, SharedOut};
+ghost use Rattle.blocks.specs.Moves.{PutTrailer, Emptied, Opened, Closed, CutOff, Joined, Recut, SharedOut};
 use geometry::Record;
 use pool::move_bytes;
 use pool::put_byte;
@@ -56,6 +56,14 @@ fn put_trailer(pool: &mut [u8], b: usize, many: usize)
     let at = Record::DIRECTORY_SIZE + Record::BLOCK_SIZE * b;
     put_byte(pool, at + Record::FORM_AT, Record::FORM_MARKS);
     put_word(pool, at + Record::COUNT_AT, many);
+}
+
+// Makes the block b one without entries: a leaf without marks, or a branch without children.
+pub fn empty_block(pool: &mut [u8], b: usize)
+    requires { ⌜ b < shares (now pool) ⌝ }
+    ensures { λ _. ⌜ Emptied b (now (pool .entry)) (now (pool .exit)) ⌝ }
+{
+    put_trailer(pool, b, 0);
 }
 
 // Puts the right block's entries behind the left block's.

@@ -13,10 +13,9 @@ use Rattle.pool.proofs.Frames.{same-byte}
 use Rattle.pool.specs.Blocks.{entries}
 use Rattle.pool.specs.Bytes.{shares}
 use Rattle.pool.specs.Changes.{SameBlock}
-use Rattle.pool.specs.Words.{wordLimit}
 use Rattle.blocks.proofs.Branches.{entries-length}
 use Rattle.blocks.specs.Branches.{BranchCut}
-use Rattle.blocks.specs.Contents.{entryList, BranchAt}
+use Rattle.blocks.specs.Contents.{entryList}
 use Rattle.entries.specs.declared.Summary.{Summary}
 use Rattle.edit.specs.Entries.{putAt}
 use Rattle.edit.specs.Grafts.{EntryPut, BranchSplit}
@@ -48,20 +47,6 @@ module _ {A : Type 0} (e : A) where
   high-halves (x ∷ y ∷ z ∷ w ∷ ws) k full high last = absurd (omega arith)
 
 module _ (b new k child : ℕ) (summary : Summary) (p q : List ℕ) (within : b < shares p) (full : entries p b ≡ mostBranch) (inside : new < shares p) where
-  -- what the cuts and the halves need
-  pub full-branch : BranchAt p b
-  full-branch = record { inside = within; fits = omega arith }
-
-  pub low-ready : BranchCut b new (leastBranch - 1) p q → k < leastBranch → child < wordLimit
-      → BranchAt q b × (k ≤ entries q b) × (entries q b < mostBranch) × (child < wordLimit)
-  low-ready cut low small =
-      (record { inside = omega (arith, within, cut .only .long); fits = omega (arith, cut .many) }, omega (arith, cut .many), omega (arith, cut .many), small)
-
-  pub high-ready : BranchCut b new leastBranch p q → leastBranch ≤ k → k ≤ mostBranch → child < wordLimit
-      → BranchAt q new × (k - leastBranch ≤ entries q new) × (entries q new < mostBranch) × (child < wordLimit)
-  high-ready cut high last small =
-      (record { inside = omega (arith, inside, cut .only .long); fits = omega (arith, cut .newMany) }, omega (arith, cut .newMany), omega (arith, cut .newMany), small)
-
   module _ (other : b ≡ new → ⊥) (r : List ℕ) where
     pub split-low : BranchCut b new (leastBranch - 1) p q → k < leastBranch → EntryPut b k child summary q r → BranchSplit b new k child summary p r
     split-low cut low put =

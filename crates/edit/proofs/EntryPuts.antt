@@ -7,8 +7,6 @@ use native.Mathlib.Omega.{arith}
 use Rattle.geometry.specs.Layout.{mostBranch}
 use Rattle.pool.proofs.Changed.{only-then}
 use Rattle.pool.specs.Blocks.{entries}
-use Rattle.pool.specs.Bytes.{shares}
-use Rattle.pool.specs.Words.{wordLimit}
 use Rattle.blocks.proofs.Branches.{entry-link, entry-below, entry-count, entry-filled}
 use Rattle.blocks.specs.Branches.{EntryOpened}
 use Rattle.blocks.specs.Contents.{entryBytes, BranchAt}
@@ -28,9 +26,6 @@ entry-holds b k child summary p q put =
     }
 
 module _ (b k child : ℕ) (summary : Summary) (p q : List ℕ) (branch : BranchAt p b) (place : k ≤ entries p b) (room : entries p b < mostBranch) (opened : EntryOpened b k p q) where
-  pub put-ready : child < wordLimit → (b < shares q) × (k < mostBranch) × (child < wordLimit)
-  put-ready small = (omega (arith, branch .inside, opened .only .long), omega arith, small)
-
   pub entry-put : (r : List ℕ) → PutEntry b k child summary q r → EntryPut b k child summary p r
   entry-put r put =
       let inside : k < mostBranch = omega arith in

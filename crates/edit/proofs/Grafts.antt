@@ -21,7 +21,7 @@ use Rattle.blocks.specs.Contents.{entryList, BranchAt}
 use Rattle.entries.specs.declared.Summary.{Summary}
 use Rattle.edit.specs.Entries.{putAt}
 use Rattle.edit.specs.Grafts.{EntryPut, BranchSplit, GraftReady, Regrouped, Grafted}
-use Rattle.edit.specs.Maps.{isFree, freeIn, Taken}
+use Rattle.edit.specs.Maps.{isFree, Taken}
 use Rattle.edit.proofs.Maps.{taken-one, taken-free, taken-blocks, taken-entered, entered-none}
 
 pub length-putAt : {A : Type 0} (k : ℕ) (x : A) (xs : List A) → k ≤ length xs → length (putAt k x xs) ≡ length xs + 1
@@ -43,9 +43,6 @@ kept-regrouped b holder all p q m branch only form list fits =
     }
 
 module _ (p m : List ℕ) (b k child holder : ℕ) (summary : Summary) (ready : GraftReady p m b k child holder) where
-  pub put-ready : entries p b < mostBranch → BranchAt p b × (k ≤ entries p b) × (entries p b < mostBranch) × (child < wordLimit)
-  put-ready room = (ready .branch, ready .place, room, ready .small)
-
   pub graft-kept : (q : List ℕ) → entries p b < mostBranch → EntryPut b k child summary p q
       → Grafted b k child holder summary (record { split = false; new = 0 }) p q m m
   graft-kept q room put =
@@ -57,9 +54,6 @@ module _ (p m : List ℕ) (b k child holder : ℕ) (summary : Summary) (ready : 
             kept-regrouped b holder (putAt k (put .entry) (entryList p b)) p q m (ready .branch) (put .only) (put .form ∙ ready .form) (put .list)
             (omega (arith, length-putAt k (put .entry) (entryList p b) place, entries-length p b));
       }
-
-  pub full-room : mostBranch ≤ entries p b → 1 ≤ freeIn m
-  full-room full = omega (arith, ready .room)
 
   module _ (new : ℕ) (n : List ℕ) (taken : Taken holder new m n) where
     pub new-inside : new < shares p

@@ -49,10 +49,6 @@ module _ (b i c holder : ℕ) (p m : List ℕ) (ready : InsertReady p m 0 b i c 
   pub ready-size : length (leafMarks p b) ≡ entries p b
   ready-size = length-leaf p b 0 (ready .block)
 
-  -- what a leaf with room needs
-  pub mark-ready : length (leafMarks p b) < mostLeaf → LeafAt p b × (1 ≤ i) × (i ≤ length (leafMarks p b) + 1) × (length (leafMarks p b) < mostLeaf)
-  mark-ready room = (ready-leaf, ready .first, ready .last, room)
-
   -- a full leaf splits, and there is a free block for it
   leaf-splits : mostLeaf ≤ length (leafMarks p b) → splits oneToAByte zero i (leafMarks p b) ≡ 1
   unfolding splits divides

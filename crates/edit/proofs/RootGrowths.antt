@@ -2,59 +2,35 @@
 -- Assumes nothing.
 use mathlib.Core.Path.{_≡_, refl, sym, ap, ap₂, subst, _∙_}
 use mathlib.Core.List.{List, [], _∷_, map}
-use Prim.Native.Nat.{ℕ, _+_, _≤_, _<_}
+use Prim.Native.Nat.{ℕ, _≤_, _<_}
 use native.Mathlib.Omega.{arith}
 use lib.ListN.{length}
-use Rattle.geometry.specs.Layout.{formAt, countAt, formMarks, mostBranch}
 use Rattle.sequence.proofs.Counts.{isMark-same}
 use Rattle.sequence.specs.Definition1.{count}
 use Rattle.sequence.specs.Items.{All}
 use Rattle.shape.specs.Nested.{joined}
 use Rattle.shape.specs.Sizes.{oneToAByte, most}
-use Rattle.pool.proofs.Changed.{only-block, only-then, only-wider}
+use Rattle.pool.proofs.Changed.{only-then, only-wider}
 use Rattle.pool.proofs.Lists.{joined-map}
 use Rattle.pool.specs.Blocks.{entries}
-use Rattle.pool.specs.Bytes.{shares, blockAt, from}
+use Rattle.pool.specs.Bytes.{shares, from}
 use Rattle.pool.specs.Trees.{shapeAt, blocksAt}
-use Rattle.pool.specs.Words.{wordLimit, PutByte, PutWord}
 use Rattle.blocks.proofs.Branches.{entries-length}
-use Rattle.blocks.proofs.Parts.{trailer-put}
-use Rattle.blocks.specs.Contents.{linkIn, entryBytes, entryList, BranchAt}
-use Rattle.blocks.specs.Moves.{PutTrailer}
+use Rattle.blocks.specs.Contents.{linkIn, entryBytes, entryList}
+use Rattle.blocks.specs.Moves.{Emptied}
 use Rattle.entries.specs.Summaries.{SummaryOf, SmallSums}
 use Rattle.entries.specs.declared.Summary.{Summary}
 use Rattle.edit.specs.Entries.{putAt}
 use Rattle.edit.specs.Grafts.{EntryPut}
 use Rattle.edit.specs.Maps.{isFree, Taken}
-use Rattle.edit.specs.Roots.{Emptied, PairWritten, RootReady, RootGrown}
+use Rattle.edit.specs.Roots.{PairWritten, RootReady, RootGrown}
 use Rattle.edit.proofs.GoodEntries.{GoodEntry, shapeIn, blocksIn, good-below, shape-entries, blocks-entries}
 use Rattle.edit.proofs.KeptLists.{KeptList, kept-list}
 use Rattle.edit.proofs.Maps.{taken-one, taken-free, taken-blocks, taken-entered}
 use Rattle.edit.proofs.TakeUps.{holds-true, summary-ready}
 
-pub emptied : (b : ℕ) (p q r : List ℕ) → b < shares p → PutByte (blockAt b + formAt) formMarks p q → PutWord (blockAt b + countAt) 0 q r → Emptied b p r
-emptied b p q r inside byte word =
-    let put : PutTrailer b 0 p r = trailer-put b 0 p q r byte word in
-    record { only = only-block (put .same) b (omega arith) (omega arith); form = put .form; many = put .many }
-
 module _ (b left right : ℕ) (first second : Summary) (p q : List ℕ) (inside : b < shares p) (empty : Emptied b p q) where
-  pub first-ready : left < wordLimit → BranchAt q b × (0 ≤ entries q b) × (entries q b < mostBranch) × (left < wordLimit)
-  first-ready small = (
-    record { inside = omega (arith, empty .only .long); fits = omega (arith, empty .many) },
-    omega arith,
-    omega (arith, empty .many),
-    small,
-  )
-
   module _ (r : List ℕ) (put : EntryPut b 0 left first q r) where
-    pub second-ready : right < wordLimit → BranchAt r b × (1 ≤ entries r b) × (entries r b < mostBranch) × (right < wordLimit)
-    second-ready small = (
-      record { inside = omega (arith, empty .only .long, put .only .long); fits = omega (arith, empty .many, put .many) },
-      omega (arith, empty .many, put .many),
-      omega (arith, empty .many, put .many),
-      small,
-    )
-
     pub pair-written : (t : List ℕ) → EntryPut b 1 right second r t → PairWritten b left right first second p t
     unfolding entryList from
     pair-written t last =
@@ -78,13 +54,6 @@ module _ (p m : List ℕ) (h left right holder : ℕ) (ready : RootReady p m h l
   right-ready = summary-ready p h right (ready .rightSound) (omega (arith, ready .short))
 
   module _ (root : ℕ) (n : List ℕ) (taken : Taken holder root m n) where
-    pub pair-ready : (root < shares p) × (left < wordLimit) × (right < wordLimit)
-    pair-ready = (
-      omega (arith, taken .inside, ready .map .blocks),
-      omega (arith, ready .leftSound .0 .inside, ready .map .longest),
-      omega (arith, ready .rightSound .0 .inside, ready .map .longest),
-    )
-
     module _ (first second : Summary) (firstOf : SummaryOf p h left first) (secondOf : SummaryOf p h right second) (q : List ℕ)
         (pair : PairWritten root left right first second p q) where
       links : map linkIn (pair .one ∷ pair .two ∷ []) ≡ left ∷ right ∷ []

@@ -7,7 +7,7 @@ use Rattle.geometry.specs.Layout.{formMarks, leastBranch}
 use Rattle.geometry.specs.Limits.{mostAlphabet}
 use Rattle.sequence.specs.Definition1.{count}
 use Rattle.shape.specs.Nested.{joined, marksIn}
-use Rattle.pool.specs.Blocks.{formOf, entries}
+use Rattle.pool.specs.Blocks.{formOf}
 use Rattle.pool.specs.Changes.{Only}
 use Rattle.pool.specs.Sound.{SoundBlock, SoundBelow}
 use Rattle.pool.specs.Trees.{shapeAt, blocksAt}
@@ -17,12 +17,6 @@ use Rattle.entries.specs.declared.Summary.{Summary}
 use Rattle.edit.specs.Entries.{Holds, SoundChild}
 use Rattle.edit.specs.Inserts.{MapOf}
 use Rattle.edit.specs.Maps.{isFree, freeIn, Entered, Agrees}
-
--- the block is a branch with no entry
-pub record Emptied (b : ℕ) (p q : List ℕ) : Type 0 where
-  pub only : Only (λ x. x ≡ b) p q
-  pub form : formOf q b ≡ formMarks
-  pub many : entries q b ≡ 0
 
 -- the block is a branch with these two entries
 pub record PairWritten (b left right : ℕ) (first second : Summary) (p q : List ℕ) : Type 0 where

@@ -2,14 +2,12 @@
 ghost use Prim.Native.Nat.{_<_};
 ghost use Rattle.pool.specs.Bytes.{shares};
 ghost use Rattle.pool.specs.Words.{wordLimit};
-ghost use Rattle.edit.specs.Roots.{Emptied, PairWritten, RootReady, RootGrown};
+ghost use Rattle.edit.specs.Roots.{PairWritten, RootReady, RootGrown};
 use crate::branches::put_entry;
 use crate::map::take_block;
+use blocks::empty_block;
 use entries::Summary;
 use entries::summary_of;
-use geometry::Record;
-use pool::put_byte;
-use pool::put_word;
 
 // Takes a block for a root above two blocks of a level.
 pub fn grow_root(
@@ -35,17 +33,7 @@ fn write_pair(pool: &mut [u8], b: usize, left: usize, first: Summary, right: usi
     requires { ⌜ (b < shares (now pool)) × (left < wordLimit) × (right < wordLimit) ⌝ }
     ensures { λ _. ⌜ PairWritten b left right first second (now (pool .entry)) (now (pool .exit)) ⌝ }
 {
-    empty_branch(pool, b);
+    empty_block(pool, b);
     put_entry(pool, b, 0, left, first);
     put_entry(pool, b, 1, right, second);
-}
-
-// Makes the block b a branch with no entry.
-fn empty_branch(pool: &mut [u8], b: usize)
-    requires { ⌜ b < shares (now pool) ⌝ }
-    ensures { λ _. ⌜ Emptied b (now (pool .entry)) (now (pool .exit)) ⌝ }
-{
-    let at = Record::DIRECTORY_SIZE + Record::BLOCK_SIZE * b;
-    put_byte(pool, at + Record::FORM_AT, Record::FORM_MARKS);
-    put_word(pool, at + Record::COUNT_AT, 0);
 }

@@ -4,14 +4,7 @@ use mathlib.Core.List.{List, [], _∷_}
 use Prim.Native.Nat.{ℕ}
 use Rattle.geometry.specs.Limits.{names}
 use Rattle.protocol.proofs.Rows.{by-row}
-use Rattle.protocol.proofs.Validity.{
-  each-after-set,
-  by-status,
-  formatted-is-closed,
-  formatted-is-valid,
-  respond-keeps-valid,
-  commands-keep-valid,
-}
+use Rattle.protocol.proofs.Validity.{each-after-set, by-status, formatted-is-closed, formatted-is-valid, commands-keep-valid}
 use Rattle.protocol.specs.Commands.{edited, rows, rowFor}
 use Rattle.protocol.specs.Respond.{reply, respond, stateAfter}
 use Rattle.protocol.specs.State.{Part, State, closed, opened, formatted, partOf, unpromised}
@@ -67,9 +60,6 @@ fill-stays-after s [] filled = filled
 fill-stays-after s (c ∷ cs) filled = fill-stays-after (respond trees s c .state) cs (fill-stays s c filled)
 
 -- valid states stay valid
-pub validity-stays : (s : State Tree) (c : Command) → Valid trees s → Valid trees (respond trees s c .state)
-validity-stays = respond-keeps-valid trees trees-are-faithful
-
 pub validity-stays-after : (s : State Tree) (cs : List Command) → Valid trees s → Valid trees (stateAfter trees s cs)
 validity-stays-after = commands-keep-valid trees trees-are-faithful
 

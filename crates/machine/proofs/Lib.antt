@@ -1,3 +1,5 @@
+-- Theorems that stand for themselves, applied nowhere: one-or-several, fill-stays-after, validity-stays-after,
+-- formatted-is-valid-and-filled, image-on-lists, own-part-only and same-from-formatted.
 pub mod Image
 pub mod Fill
 pub mod Depths

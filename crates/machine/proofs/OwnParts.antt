@@ -23,7 +23,7 @@ use Rattle.protocol.specs.declared.Command.{Command}
 use Rattle.sequence.specs.Items.{All}
 use Rattle.shape.specs.Trees.{Tree, emptyT}
 use Rattle.machine.specs.Machine.{trees}
-use Rattle.machine.specs.OneName.{HasNames, AlikeAt, replyIn, isOpening, OwnPartOnly, OthersStay}
+use Rattle.machine.specs.OneName.{HasNames, replyIn, isOpening, OwnPartOnly, OthersStay}
 
 -- a name's reply where the status of an opening is given: of the state it looks at the name's part alone
 unfoldable pub replyAt : ℕ → Part Tree → Command → Reply Tree
@@ -131,19 +131,6 @@ own-part-only s c has below =
           ∙ rw (lacking .1),
     ))
     (status-is-own-or-twelve free part c)
-
--- states that are alike at the name reply alike, to an opening where its statuses are the same
-pub alike-replies : (s t : State Tree) (c : Command) → HasNames s → HasNames t → c .name < names → AlikeAt (c .name) s t
-    → (c .code ≡ openCode → respond trees s c .answer .status ≡ respond trees t c .answer .status) → replyIn s c ≡ replyIn t c
-alike-replies s t c has has′ below alike statuses =
-    let opening = statusOf trees (unpromised s) (partOf s (c .name)) c in
-    let same : c .code ≡ openCode → opening ≡ statusOf trees (unpromised t) (partOf t (c .name)) c
-    = λ is. sym (respond-status trees s c) ∙ statuses is ∙ respond-status trees t c in
-    reply-in s c has below
-    ∙ sym (reply-at (unpromised s) (partOf s (c .name)) c opening (λ is. refl) below)
-    ∙ ap (λ part. replyAt opening part c) alike
-    ∙ reply-at (unpromised t) (partOf t (c .name)) c opening same below
-    ∙ sym (reply-in t c has′ below)
 
 pub others-stay : (s : State Tree) (c : Command) → OthersStay s c
 others-stay s c x other = other-parts-stay trees s c x other

@@ -95,8 +95,5 @@ pub only-either : {These Those : ℕ → Type 0} {p q r : List ℕ} → Only The
 only-either f g = only-then (only-wider _ (λ b t. inl t) f) (only-wider _ (λ b t. inr t) g)
 
 module _ {These : ℕ → Type 0} {p q : List ℕ} (o : Only These p q) where
-  pub word-directory : (a : ℕ) → a + wordSize ≤ directorySize → word q a ≡ word p a
-  word-directory a h = word-same p q a a (o .directory a (omega arith)) (o .directory (a + 1) (omega arith))
-
   pub word-other : (b i : ℕ) → (These b → ⊥) → i + wordSize ≤ blockSize → word q (blockAt b + i) ≡ word p (blockAt b + i)
   word-other b i other h = word-in-block p q b i (o .others b other) h

@@ -6,19 +6,19 @@ use mathlib.Core.List.{List, [], _∷_, _++_, map}
 use Prim.Native.Nat.{ℕ, zero, suc, _+_, _-_, _≤_, _<_}
 use native.Mathlib.Omega.{arith}
 use lib.ListN.{length, getD, take, drop, length-map, length-append, length-take, length-drop}
-use lib.Seq.{split-at, ext-getD}
+use lib.Seq.{split-at}
 use Rattle.sequence.specs.Alphabet.{sumBelow}
 use Rattle.sequence.specs.Definition1.{isMark, count}
 use Rattle.sequence.specs.Items.{All}
 use Rattle.sequence.proofs.Measures.{Additive, count-additive}
 use Rattle.shape.specs.Blocks.{blocks}
 use Rattle.shape.specs.Level.{Takes}
-use Rattle.shape.specs.Nested.{Node, joined, total, flat}
-use Rattle.shape.proofs.Folds.{joined-append, total-joined}
+use Rattle.shape.specs.Nested.{Node, total, flat}
+use Rattle.shape.proofs.Folds.{total-joined}
 use Rattle.pool.specs.Blocks.{entries, link, children}
 use Rattle.pool.specs.Bytes.{from}
 use Rattle.pool.specs.Trees.{shapeAt, blocksAt}
-use Rattle.pool.proofs.Froms.{length-from, getD-from-start, take-from, drop-from, from-around, from-all, map-from, total-from, joined-from}
+use Rattle.pool.proofs.Froms.{length-from, getD-from-start, take-from, drop-from, from-all, map-from, total-from, joined-from}
 use Rattle.pool.proofs.Lists.{joined-all, joined-map, total-map, total-same}
 use Rattle.pool.proofs.Sums.{sumBelow-same}
 
@@ -31,12 +31,6 @@ module _ (p : List ℕ) where
       (sym (total-joined length length-append (blocksAt p h) (children p b))
       ∙ total-same (λ c. length (blocksAt p h c)) (λ c. blocks h (shapeAt p h c)) (children p b) (length-blocksAt h)
       ∙ sym (total-map (blocks h) (shapeAt p h) (children p b)))
-
-  -- the branch that these links were written to
-  pub children-are : (b : ℕ) (cs : List ℕ) → entries p b ≡ length cs → ((k : ℕ) → k < length cs → link p b k ≡ getD cs k 0) → children p b ≡ cs
-  children-are b cs many each =
-      ext-getD 0 (children p b) cs (length-from (link p b) 0 (entries p b) ∙ many)
-      (λ k h. let l : k < entries p b = omega (arith, length-from (link p b) 0 (entries p b)) in getD-from-start (link p b) (entries p b) k 0 l ∙ each k (omega arith))
 
   -- what holds of all blocks holds of the first, which is the tree's own
   pub blocks-root : (P : ℕ → Type 0) (h b : ℕ) → All P (blocksAt p h b) → P b
@@ -62,12 +56,6 @@ module _ (p : List ℕ) where
 
       pub blocks-child : (P : ℕ → Type 0) → All P (blocksAt p (suc h) b) → All P (blocksAt p h (link p b k))
       blocks-child P s = from-all (λ c. All P (blocksAt p h c)) (link p b) (entries p b) k inside (joined-all P (blocksAt p h) (children p b) (s .1))
-
-      pub blocks-around : blocksAt p (suc h) b
-          ≡ b ∷ joined (blocksAt p h) (from (link p b) 0 k) ++ (blocksAt p h (link p b k) ++ joined (blocksAt p h) (from (link p b) (suc k) (entries p b - suc k)))
-      blocks-around =
-          ap (λ cs. b ∷ joined (blocksAt p h) cs) (from-around (link p b) (entries p b) k inside)
-          ∙ ap (λ bs. b ∷ bs) (joined-append (blocksAt p h) (from (link p b) 0 k) (link p b k ∷ from (link p b) (suc k) (entries p b - suc k)))
 
     pub shape-before : (k : ℕ) → k ≤ entries p b → take k (shapeAt p (suc h) b) ≡ map (shapeAt p h) (from (link p b) 0 k)
     shape-before k le =

@@ -51,11 +51,6 @@ module _ {at many : ℕ} {p q : List ℕ} (o : Outside at many p q) where
   pub cut-behind : (a n : ℕ) → at + many ≤ a → take n (drop a q) ≡ take n (drop a p)
   cut-behind a n h = cut-same p q a n (o .long) (λ j below. o .high (a + j) (omega arith))
 
-  pub drop-behind : (a : ℕ) → at + many ≤ a → drop a q ≡ drop a p
-  drop-behind a h =
-      ext-getD 0 (drop a q) (drop a p) (simp (length-drop, o .long))
-      (λ i below. getD-drop a q i 0 ∙ o .high (a + i) (omega arith) ∙ sym (getD-drop a p i 0))
-
 -- after a move, the stretch is the one that was moved
 pub cut-moved : {from to many : ℕ} {p q : List ℕ} → Moved from to many p q → from + many ≤ length p → to + many ≤ length p
     → take many (drop to q) ≡ take many (drop from p)

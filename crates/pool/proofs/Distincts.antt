@@ -3,10 +3,9 @@
 -- Assumes nothing.
 use mathlib.Core.Path.{_≡_, refl}
 use mathlib.Core.Bool.{cond}
-use mathlib.Core.List.{List, [], _∷_, _++_}
+use mathlib.Core.List.{List, [], _∷_}
 use mathlib.Core.Logic.{⊎-elim}
-use Prim.Native.Nat.{ℕ, _+_, _≤_, _<_}
-use native.Mathlib.Nat.{eq-zero-or-pos}
+use Prim.Native.Nat.{ℕ, _+_, _≤_}
 use native.Mathlib.Omega.{arith}
 use lib.Dec.{leb}
 use lib.ListN.{length}
@@ -15,7 +14,6 @@ use Rattle.sequence.specs.Definition1.{count}
 use Rattle.sequence.specs.Items.{All}
 use Rattle.sequence.proofs.Alphabets.{sumBelow-add, counts-add-up}
 use Rattle.sequence.proofs.Counts.{isMark-cases, isMark-same}
-use Rattle.sequence.proofs.Measures.{count-additive}
 use Rattle.shape.proofs.Choice.{by-leb}
 use Rattle.pool.specs.Sound.{Distinct}
 use Rattle.pool.proofs.Sums.{sumBelow-same, sumBelow-ones}
@@ -33,23 +31,6 @@ module _ (P : ℕ → Type 0) where
   standing-all [] p = tt
   standing-all (x ∷ xs) p = (p x (omega (arith, isMark-same x x refl)), standing-all xs (λ b h. p b (omega arith)))
 
--- Two lists, one after the other, without a common number.
-module _ (xs ys : List ℕ) where
-  pub distinct-left : Distinct (xs ++ ys) → Distinct xs
-  distinct-left d b = omega (arith, d b, count-additive b xs ys)
-
-  pub distinct-right : Distinct (xs ++ ys) → Distinct ys
-  distinct-right d b = omega (arith, d b, count-additive b xs ys)
-
-  pub distinct-apart : Distinct (xs ++ ys) → All (λ b. count b ys ≡ 0) xs
-  distinct-apart d = standing-all (λ b. count b ys ≡ 0) xs (λ b h. omega (arith, d b, count-additive b xs ys))
-
-  pub distinct-append : Distinct xs → Distinct ys → All (λ b. count b ys ≡ 0) xs → Distinct (xs ++ ys)
-  distinct-append dx dy p b =
-      ⊎-elim (λ (e : count b xs ≡ 0). omega (arith, dy b, count-additive b xs ys))
-      (λ (h : 0 < count b xs). omega (arith, dx b, count-additive b xs ys, all-standing (λ c. count c ys ≡ 0) xs b h p))
-      (eq-zero-or-pos (count b xs))
-
 -- Numbers below n, none twice.
 module _ (n : ℕ) (xs : List ℕ) (distinct : Distinct xs) (below : AllBelow n xs) where
   -- those that stand in the list and those that don't are all
@@ -59,6 +40,3 @@ module _ (n : ℕ) (xs : List ℕ) (distinct : Distinct xs) (below : AllBelow n 
       let one : (b : ℕ) → misses b + count b xs ≡ 1
       = λ b. by-leb (λ z. z + count b xs ≡ 1) 1 (count b xs) 0 1 (λ h. omega (arith, distinct b)) (λ h. omega arith) in
       omega (arith, sumBelow-add n misses (λ b. count b xs), sumBelow-same n (λ b. misses b + count b xs) (λ b. 1) (λ b h. one b), sumBelow-ones n, counts-add-up n xs below)
-
-  pub distinct-long : length xs ≤ n
-  distinct-long = omega (arith, missing-and-standing)

@@ -1,8 +1,8 @@
--- A change that leaves a tree's blocks alone leaves the tree: its shape, its blocks, the ways down it, and that it is sound.
+-- A change that leaves a tree's blocks alone leaves the tree: its shape, its blocks, and that it is sound.
 -- First one block: each of its words is as before. Then by level, the children in turn.
 -- Assumes nothing.
 use mathlib.Core.Path.{_≡_, refl, sym, ap, ap₂, _∙_}
-use mathlib.Core.List.{List, [], _∷_, map}
+use mathlib.Core.List.{List, _∷_, map}
 use Prim.Native.Nat.{ℕ, zero, suc, _+_, _-_, _*_, _≤_, _<_}
 use native.Mathlib.Omega.{arith}
 use lib.ListN.{length, take, drop, length-take, length-drop}
@@ -13,19 +13,18 @@ use Rattle.sequence.specs.Definition1.{count}
 use Rattle.sequence.specs.Items.{All}
 use Rattle.sequence.proofs.Items.{all-map}
 use Rattle.shape.specs.Nested.{joined, flat, marksIn}
-use Rattle.shape.specs.Paths.{path}
 use Rattle.shape.specs.Sizes.{oneToAByte, least}
 use Rattle.pool.specs.Blocks.{entries, leafMarks, link, marksBelow, countBelow, children}
 use Rattle.pool.specs.Bytes.{byte, word, blockAt, from}
 use Rattle.pool.specs.Changes.{SameBlock, Only}
 use Rattle.pool.specs.Sound.{SoundBlock, SoundBelow, Tells}
-use Rattle.pool.specs.Trees.{shapeAt, blocksAt, entered, pathAt}
+use Rattle.pool.specs.Trees.{shapeAt, blocksAt}
 use Rattle.pool.specs.Untouched.{SameBlocks}
 use Rattle.pool.proofs.Children.{blocks-root, blocks-child}
 use Rattle.pool.proofs.Froms.{from-same, all-from}
 use Rattle.pool.proofs.Leaves.{front-byte}
 use Rattle.pool.proofs.Lists.{joined-same, map-same}
-use Rattle.pool.proofs.Ways.{Readable, Way, path-way}
+use Rattle.pool.proofs.Ways.{Readable}
 
 -- blocks that are none of those changed
 pub only-same : (These : ℕ → Type 0) (p p′ : List ℕ) → Only These p p′ → (bs : List ℕ) → All (λ b. These b → ⊥) bs → SameBlocks bs p p′
@@ -98,20 +97,6 @@ module _ (p p′ : List ℕ) (long : length p′ ≡ length p) where
       ap (λ bs. b ∷ bs)
       (ap (joined (blocksAt p′ h)) (same-children p p′ b (s .0) (r .0 .fits))
       ∙ joined-same (blocksAt p′ h) (blocksAt p h) (children p b) (children-kept (λ c. blocksAt p′ h c ≡ blocksAt p h c) h b (blocks-kept h) r s))
-
-  entered-kept : (h b : ℕ) (ks : List ℕ) → Way p h b ks → Readable p h b → SameBlocks (blocksAt p h b) p p′ → entered p′ b ks ≡ entered p b ks
-  entered-kept zero b [] w r s = refl
-  entered-kept zero b (k ∷ ks) w r s = absurd w
-  entered-kept (suc h) b [] w r s = absurd w
-  entered-kept (suc h) b (k ∷ ks) w r s =
-      ap (λ bs. b ∷ bs)
-      (ap (λ c. entered p′ c ks) (same-link p p′ b (s .0) k (omega (arith, w .0, r .0 .fits)))
-      ∙ entered-kept h (link p b k) ks (w .1) (r .1 k (w .0)) (blocks-child p h b k (w .0) (λ x. SameBlock x p p′) s))
-
-  pub path-kept : (h i b : ℕ) → Readable p h b → SameBlocks (blocksAt p h b) p p′ → pathAt p′ h i b ≡ pathAt p h i b
-  path-kept h i b r s =
-      ap (λ x. entered p′ b (path length h i x)) (shape-kept h b r s)
-      ∙ entered-kept h b (path length h i (shapeAt p h b)) (path-way p length h i b r) r s
 
   pub below-kept : (alphabet h b : ℕ) → Readable p h b → SameBlocks (blocksAt p h b) p p′ → SoundBelow p alphabet h b → SoundBelow p′ alphabet h b
   below-kept alphabet zero b r s sound = rw (same-leaf p p′ b (s .0) long r) sound

@@ -1,11 +1,11 @@
--- A leaf's marks are its first bytes, and whoever has those bytes has the marks.
+-- A leaf's marks are its first bytes.
 -- Assumes nothing.
 use mathlib.Core.Path.{_≡_, _∙_}
 use mathlib.Core.List.{List}
 use Prim.Native.Nat.{ℕ, zero, _+_, _≤_, _<_}
 use native.Mathlib.Omega.{arith}
 use lib.ListN.{length, getD, take, drop, length-take, length-drop}
-use lib.Seq.{ext-getD, getD-take, getD-drop}
+use lib.Seq.{getD-take, getD-drop}
 use Rattle.geometry.specs.Limits.{blockSize}
 use Rattle.pool.specs.Blocks.{entries, leafMarks}
 use Rattle.pool.specs.Bytes.{byte, shares, blockAt}
@@ -27,12 +27,3 @@ module _ (p : List ℕ) (b : ℕ) where
   pub length-leaf : (fewest : ℕ) → SoundBlock p fewest zero b → length (leafMarks p b) ≡ entries p b
   unfolding leafMarks
   length-leaf fewest s = omega (arith, length-take (entries p b) (drop (blockAt b) p), length-drop (blockAt b) p, block-inside (s .inside), s .fits)
-
-  -- the leaf that these marks were written to
-  pub leaf-is : (marks : List ℕ) → blockAt b + length marks ≤ length p → entries p b ≡ length marks
-      → ((i : ℕ) → i < length marks → byte p (blockAt b + i) ≡ getD marks i 0) → leafMarks p b ≡ marks
-  unfolding leafMarks
-  leaf-is marks inside many each =
-      let long : length (take (entries p b) (drop (blockAt b) p)) ≡ length marks
-      = omega (arith, length-take (entries p b) (drop (blockAt b) p), length-drop (blockAt b) p) in
-      ext-getD 0 (take (entries p b) (drop (blockAt b) p)) marks long (λ i h. front-byte (entries p b) i (omega arith) ∙ each i (omega arith))

@@ -10,7 +10,6 @@ pub mod Distincts
 pub mod Leaves
 pub mod Children
 pub mod Ways
-pub mod Apart
 pub mod Frames
 pub mod SoundTrees
 pub mod Summaries

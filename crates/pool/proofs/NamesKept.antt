@@ -17,12 +17,12 @@ use Rattle.shape.specs.Nested.{marksIn}
 use Rattle.shape.specs.Trees.{Tree}
 use Rattle.pool.specs.Bytes.{recordAt}
 use Rattle.pool.specs.Changes.{SameBlock, Only}
-use Rattle.pool.specs.Names.{recordOf, treeOf, pathOf, blocksOf}
+use Rattle.pool.specs.Names.{recordOf, treeOf, blocksOf}
 use Rattle.pool.specs.Sound.{ClosedName, OpenName}
-use Rattle.pool.specs.Trees.{shapeAt, blocksAt, pathAt}
+use Rattle.pool.specs.Trees.{shapeAt, blocksAt}
 use Rattle.pool.specs.Untouched.{SameBlocks, SameRecord, Untouched}
 use Rattle.pool.proofs.Children.{blocks-root}
-use Rattle.pool.proofs.Frames.{only-same, same-block, shape-kept, blocks-kept, path-kept, below-kept}
+use Rattle.pool.proofs.Frames.{only-same, same-block, shape-kept, blocks-kept, below-kept}
 use Rattle.pool.proofs.SoundNames.{closed-blocks, open-blocks, open-readable}
 use Rattle.pool.proofs.Written.{record-same}
 
@@ -53,11 +53,6 @@ module _ (name : ℕ) (p p′ : List ℕ) (kept : Untouched name p p′) (open-n
   tree-kept =
       ap {B = Tree} (λ (r : Record). record { height = r .height; root = shapeAt p′ (r .height) (r .root) }) (record-kept name p p′ (kept .entry))
       ∙ ap {B = Tree} (λ x. record { height = recordOf p name .height; root = x }) shape-of-kept
-
-  pub path-of-kept : (i : ℕ) → pathOf p′ name i ≡ pathOf p name i
-  path-of-kept i =
-      ap (λ (r : Record). pathAt p′ (r .height) i (r .root)) (record-kept name p p′ (kept .entry))
-      ∙ path-kept p p′ (kept .long) (recordOf p name .height) i (recordOf p name .root) (open-readable p name open-name) same-blocks
 
   pub open-kept : OpenName p′ name
   open-kept =

@@ -2,14 +2,12 @@
 -- The other names are as they were; counts of blocks and sums of shares change by what that name's changed.
 -- Assumes nothing.
 use mathlib.Core.Path.{_≡_, ap, _∙_}
-use mathlib.Core.Bool.{false}
 use mathlib.Core.List.{List}
 use mathlib.Core.Logic.{_⊎_, ⊎-elim}
 use Prim.Native.Nat.{ℕ, _+_, _≤_, _<_}
 use native.Mathlib.Nat.{eq-zero-or-pos}
 use native.Mathlib.Omega.{arith}
 use lib.ListN.{length}
-use borrow.Author.Tests.{leb-false}
 use Rattle.geometry.specs.Layout.{headerSize}
 use Rattle.geometry.specs.Limits.{names}
 use Rattle.sequence.specs.Definition1.{count}
@@ -18,7 +16,7 @@ use Rattle.sequence.proofs.Counts.{isMark-cases}
 use Rattle.sequence.proofs.Measures.{count-additive}
 use Rattle.pool.specs.Bytes.{byte}
 use Rattle.pool.specs.Names.{recordOf, blocksOf, heldBlocks}
-use Rattle.pool.specs.Shares.{isHeld, promisedShares, unpromisedShares}
+use Rattle.pool.specs.Shares.{promisedShares, unpromisedShares}
 use Rattle.pool.specs.Sound.{ClosedName, OpenName, Distinct, Sound}
 use Rattle.pool.specs.Untouched.{Untouched}
 use Rattle.pool.proofs.Distincts.{all-standing}
@@ -36,10 +34,6 @@ module _ (p p′ : List ℕ) (x : ℕ) (low : x < names) (sound : Sound p) (othe
         sumBelow-change names (λ name. count b (blocksOf p′ name)) (λ name. count b (blocksOf p name)) x low
             (λ y l other. ap (count b) (blocks-of-untouched y p p′ (others y l other) (sound .each y l))),
       )
-
-  -- nobody else holds a block that was free or the name's own
-  pub own-or-free : (b : ℕ) → (isHeld p b ≡ false) ⊎ (1 ≤ count b (blocksOf p x)) → count b (heldBlocks p) ≤ count b (blocksOf p x)
-  own-or-free b either = ⊎-elim (λ free. omega (arith, leb-false 1 (count b (heldBlocks p)) free)) (λ (own : 1 ≤ count b (blocksOf p x)). omega (arith, sound .apart b)) either
 
   pub promised-after : promisedShares p′ + recordOf p x .q ≡ promisedShares p + recordOf p′ x .q
   unfolding promisedShares

@@ -34,11 +34,11 @@ use Rattle.pool.specs.Shares.{freeBlocks, promisedShares, unpromisedShar
 use Rattle.pool.specs.Sound.{ClosedName, OpenName, Distinct, Sound}
 use Rattle.pool.specs.Trees.{shapeAt, blocksAt}
 use Rattle.pool.proofs.Children.{length-blocksAt}
-use Rattle.pool.proofs.Distincts.{standing-all, missing-and-standing}
+use Rattle.pool.proofs.Distincts.{missing-and-standing}
 use Rattle.pool.proofs.Froms.{all-from, joined-from}
 use Rattle.pool.proofs.Lists.{all-joined}
 use Rattle.pool.proofs.SoundTrees.{sound-filled, sound-marks, sound-readable, sound-inside}
-use Rattle.pool.proofs.Sums.{sumBelow-one, sumBelow-two, sumBelow-less}
+use Rattle.pool.proofs.Sums.{sumBelow-one, sumBelow-less}
 use Rattle.pool.proofs.Ways.{Readable, length-entered}
 use Rattle.pool.proofs.Written.{closed-record}
 
@@ -137,8 +137,3 @@ module _ (p : List ℕ) (sound : Sound p) where
 
   pub name-distinct : (name : ℕ) → name < names → Distinct (blocksOf p name)
   name-distinct name low b = omega (arith, held-once b, sumBelow-one names (λ name. count b (blocksOf p name)) name low)
-
-  pub names-apart : (x y : ℕ) → x < names → y < names → (x ≡ y → ⊥) → All (λ b. count b (blocksOf p y) ≡ 0) (blocksOf p x)
-  names-apart x y lx ly other =
-      standing-all (λ b. count b (blocksOf p y) ≡ 0) (blocksOf p x)
-      (λ b l. omega (arith, held-once b, sumBelow-two names (λ name. count b (blocksOf p name)) x y lx ly other))

@@ -1,25 +1,19 @@
--- What a block says of its own marks is true of a sound tree, so an entry that says the same of its child is right; and it says the same
--- as long as it keeps its bytes. A branch adds up what its entries tell.
+-- What a block says of its own marks is true of a sound tree, so an entry that says the same of its child is right. A branch adds
+-- up what its entries tell.
 -- Assumes nothing.
-use mathlib.Core.Path.{_≡_, refl, sym, ap, _∙_}
+use mathlib.Core.Path.{_≡_, refl, sym, _∙_}
 use mathlib.Core.List.{List}
-use Prim.Native.Nat.{ℕ, zero, suc, _≤_, _<_}
-use native.Mathlib.Omega.{arith}
+use Prim.Native.Nat.{ℕ, zero, suc, _<_}
 use lib.ListN.{length, length-append}
 use Rattle.geometry.specs.Limits.{mostAlphabet}
-use Rattle.sequence.specs.Alphabet.{sumBelow}
 use Rattle.sequence.specs.Definition1.{count}
 use Rattle.sequence.proofs.Measures.{count-additive}
 use Rattle.shape.specs.Nested.{flat, marksIn}
-use Rattle.shape.specs.Sizes.{oneToAByte, most}
-use Rattle.pool.specs.Blocks.{entries, link, marksBelow, countBelow}
-use Rattle.pool.specs.Changes.{SameBlock}
+use Rattle.pool.specs.Blocks.{link, marksBelow, countBelow}
 use Rattle.pool.specs.Sound.{SoundBlock, SoundBelow, Tells}
 use Rattle.pool.specs.Trees.{shapeAt, ownMarks, ownCount}
 use Rattle.pool.proofs.Children.{told-all}
-use Rattle.pool.proofs.Frames.{same-entries, same-marksBelow, same-countBelow, same-leaf}
 use Rattle.pool.proofs.Leaves.{length-leaf}
-use Rattle.pool.proofs.Sums.{sumBelow-same}
 
 module _ (p : List ℕ) (alphabet : ℕ) where
   pub own-marks : (fewest h b : ℕ) → SoundBlock p fewest h b → SoundBelow p alphabet h b → ownMarks p h b ≡ marksIn h (shapeAt p h b)
@@ -40,17 +34,3 @@ module _ (p : List ℕ) (alphabet : ℕ) where
 
     pub own-told : Tells p h b k → (marksBelow p b k ≡ ownMarks p h (link p b k)) × ((c : ℕ) → c < mostAlphabet → countBelow p b k c ≡ ownCount p h (link p b k) c)
     own-told told = (told .marks ∙ sym (own-marks fewest h (link p b k) block below), λ c low. told .counts c low ∙ sym (own-count h (link p b k) c low below))
-
--- A block that keeps its bytes.
-module _ (p p′ : List ℕ) (b : ℕ) (same : SameBlock b p p′) where
-  pub same-own-marks : (h : ℕ) → entries p b ≤ most oneToAByte h → ownMarks p′ h b ≡ ownMarks p h b
-  same-own-marks zero fits = same-entries p p′ b same
-  same-own-marks (suc h) fits =
-      ap (λ n. sumBelow n (marksBelow p′ b)) (same-entries p p′ b same)
-      ∙ sumBelow-same (entries p b) (marksBelow p′ b) (marksBelow p b) (λ k l. same-marksBelow p p′ b same k (omega arith))
-
-  pub same-own-count : length p′ ≡ length p → (h c : ℕ) → entries p b ≤ most oneToAByte h → c < mostAlphabet → ownCount p′ h b c ≡ ownCount p h b c
-  same-own-count long zero c fits low = ap (count c) (same-leaf p p′ b same long fits)
-  same-own-count long (suc h) c fits low =
-      ap (λ n. sumBelow n (λ k. countBelow p′ b k c)) (same-entries p p′ b same)
-      ∙ sumBelow-same (entries p b) (λ k. countBelow p′ b k c) (λ k. countBelow p b k c) (λ k l. same-countBelow p p′ b same k c (omega arith) low)

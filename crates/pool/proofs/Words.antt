@@ -6,7 +6,7 @@ use Prim.Native.Nat.{ℕ, _+_, _*_, _/_, _%_, _≤_, _<_}
 use native.Mathlib.Omega.{arith}
 use Rattle.geometry.specs.Layout.{wordSize}
 use Rattle.pool.specs.Bytes.{byte, word}
-use Rattle.pool.specs.Words.{byteLimit, wordLimit, Wide, WordAt}
+use Rattle.pool.specs.Words.{Wide, WordAt}
 
 -- two words of the same two bytes are the same
 pub word-same : (p q : List ℕ) (a b : ℕ) → byte q b ≡ byte p a → byte q (b + 1) ≡ byte p (a + 1) → word q b ≡ word p a
@@ -32,11 +32,6 @@ low-zero p a i none = omega arith
 pub high-zero : (p : List ℕ) (a i : ℕ) → word p (a + i) ≡ 0 → byte p (a + (i + 1)) ≡ 0
 unfolding word
 high-zero p a i none = let next : a + (i + 1) ≡ a + i + 1 = omega arith in rw next (omega arith)
-
--- each of the two is less than 256, so a word is less than 65,536
-pub word-small : (p : List ℕ) (at : ℕ) → byte p at < byteLimit → byte p (at + 1) < byteLimit → word p at < wordLimit
-unfolding word
-word-small p at low high = omega arith
 
 -- the word that two bytes read make
 pub word-of-bytes : (p : List ℕ) (at low high : ℕ) → Wide (byte p at) low → Wide (byte p (at + 1)) high → WordAt p at (low + 256 * high)

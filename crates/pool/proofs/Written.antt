@@ -2,14 +2,12 @@
 -- Assumes nothing.
 use mathlib.Core.Path.{_≡_, refl, sym, ap, _∙_}
 use mathlib.Core.List.{List}
-use Prim.Native.Nat.{ℕ, zero, suc, _+_, _-_, _≤_, _<_}
+use Prim.Native.Nat.{ℕ, zero, suc, _+_, _-_, _<_}
 use native.Mathlib.Omega.{arith}
 use Rattle.geometry.specs.Layout.{recordSize, kindAt, alphabetAt, heightAt, zeroAt, qAt, rootAt, lengthAt, spareAt}
-use Rattle.geometry.specs.Limits.{names}
 use Rattle.geometry.specs.Records.{closedRecord}
 use Rattle.geometry.specs.declared.Record.{Record}
 use Rattle.pool.specs.Bytes.{byte, word, recordAt}
-use Rattle.pool.specs.Changes.{Outside, Only}
 use Rattle.pool.specs.Names.{recordOf}
 use Rattle.pool.specs.Records.{PutTags, PutNumbers, PutRecord}
 use Rattle.pool.specs.Sound.{ClosedName}
@@ -137,14 +135,3 @@ record-same p q name same =
     (word-in-stretch p q (recordAt name) recordSize qAt same (omega arith))
     (word-in-stretch p q (recordAt name) recordSize rootAt same (omega arith))
     (word-in-stretch p q (recordAt name) recordSize lengthAt same (omega arith))
-
-module _ {at many : ℕ} {p q : List ℕ} (o : Outside at many p q) where
-  pub record-before : (name : ℕ) → recordAt name + recordSize ≤ at → recordOf q name ≡ recordOf p name
-  record-before name h = record-same p q name (λ j below. o .low (recordAt name + j) (omega arith))
-
-  pub record-behind : (name : ℕ) → at + many ≤ recordAt name → recordOf q name ≡ recordOf p name
-  record-behind name h = record-same p q name (λ j below. o .high (recordAt name + j) (omega arith))
-
--- a change of blocks alone
-pub record-directory : {These : ℕ → Type 0} {p q : List ℕ} → Only These p q → (name : ℕ) → name < names → recordOf q name ≡ recordOf p name
-record-directory {p = p} {q = q} o name h = record-same p q name (λ j below. o .directory (recordAt name + j) (omega arith))

@@ -22,7 +22,7 @@ use Rattle.protocol.specs.Commands.{
   lengthCode,
   unpromisedCode,
 }
-use Rattle.protocol.specs.Refusals.{NoneApplies, applies, refusals, statusOf, listed, isNameAllowed, isUnusedZero, noName}
+use Rattle.protocol.specs.Refusals.{NoneApplies, applies, refusals, statusOf, listed, isNameAllowed, noName}
 use Rattle.protocol.specs.State.{Store, Part, closed, opened, isOpen, alphabetOf, sharesOf, marksOf}
 use Rattle.protocol.specs.declared.Command.{Command}
 use Rattle.protocol.proofs.Bools.{both, neither}
@@ -90,11 +90,6 @@ module _ {A : Type 0} (store : Store A) (free : ℕ) (part : Part A) where
     unfolding refusals
     name-is-allowed accepted =
         not-false _ (rw (code-is-listed accepted) at (fails-at (c .code) c refl accepted 2))
-
-    pub unused-are-zero : statusOf store free part c ≡ 0 → isUnusedZero store c ≡ true
-    unfolding refusals
-    unused-are-zero accepted =
-        not-false _ (rw (code-is-listed accepted) at (fails-at (c .code) c refl accepted 3))
 
     -- every command but 09 names one of the sixteen
     pub name-is-below : statusOf store free part c ≡ 0 → c .code ≢ unpromisedCode → c .name < names

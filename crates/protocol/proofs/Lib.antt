@@ -1,3 +1,4 @@
+-- Theorems that stand for themselves, applied nowhere: bytes-of-command, answer-has-name, statuses-are-one-to-twelve and lists-are-faithful.
 pub mod EdgesHold
 pub mod Bytes
 pub mod Bools

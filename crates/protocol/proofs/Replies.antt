@@ -9,7 +9,7 @@ use native.Mathlib.Omega.{arith}
 use borrow.Author.Tests.{ne-eqb}
 use lib.ListN.{length, length-set}
 use lib.Seq.{set-getD, getD-set-same, getD-set-other}
-use Rattle.protocol.specs.Commands.{Effect, rows, rowFor, openCode, accessCode, unpromisedCode}
+use Rattle.protocol.specs.Commands.{Effect, rows, rowFor, openCode, accessCode}
 use Rattle.protocol.specs.Refusals.{refusals, statusOf}
 use Rattle.protocol.specs.Respond.{accepted, refused, replyOf, reply, respond, answersTo, stateAfter}
 use Rattle.protocol.specs.State.{Store, Part, State, closed, partOf, unpromised}
@@ -86,20 +86,6 @@ module _ {A : Type 0} (store : Store A) where
     unfolding statusOf refusals
     status-goes-by-part no-opening = rw (ne-eqb (c .code) openCode no-opening)
 
-    -- only the answer of code 09 tells them
-    pub reply-goes-by-status : c .code ≢ unpromisedCode → statusOf store free part c ≡ statusOf store other part c
-        → reply store free part c ≡ reply store other part c
-    unfolding reply rows
-    reply-goes-by-status known same =
-        rw same
-        (ap (replyOf (statusOf store other part c) part c)
-        (by-row (λ code r. code ≢ unpromisedCode → r .effect free part c ≡ r .effect other part c) (c .code) (rows store) (
-          λ k. refl,
-          (λ k. refl, (λ k. refl, (λ k. refl, (λ k. refl, (λ k. refl, (λ k. refl, (λ k. refl, (λ k. absurd (k refl), tt)))))))),
-        )
-        (λ k. refl)
-        known))
-
   module _ (s : State A) (c : Command) where
     -- the answer is the name's own
     pub respond-answer : respond store s c .answer ≡ reply store (unpromised s) (partOf s (c .name)) c .answer
@@ -138,11 +124,7 @@ module _ {A : Type 0} (store : Store A) where
     pub query-keeps-state : accessCode ≤ c .code → respond store s c .state ≡ s
     query-keeps-state late = kept-part-keeps-state (query-keeps-part (unpromised s) (partOf s (c .name)) c late)
 
-    -- the pool's shares and the number of names stay
-    pub shares-stay : respond store s c .state .shares ≡ s .shares
-    unfolding respond
-    shares-stay = refl
-
+    -- the number of names stays
     pub names-stay : length (respond store s c .state .parts) ≡ length (s .parts)
     unfolding respond
     names-stay = length-set (s .parts) (c .name) (reply store (unpromised s) (partOf s (c .name)) c .part)

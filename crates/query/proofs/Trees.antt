@@ -13,11 +13,6 @@ use Rattle.shape.proofs.Instances.{oneToAByte-proper}
 use Rattle.query.specs.Good.{Good}
 
 module _ (p : List ℕ) where
-  -- its own block
-  pub good-block : (h b : ℕ) → Good p h b → SoundBlock p (rootLeast h) h b
-  good-block zero b good = good
-  good-block (suc h) b good = good .0
-
   fewer : (few fewest h b : ℕ) → few ≤ fewest → SoundBlock p fewest h b → SoundBlock p few h b
   fewer few fewest h b low block = record { inside = block .inside; form = block .form; enough = omega (arith, block .enough); fits = block .fits }
 

@@ -3,17 +3,14 @@
 use mathlib.Core.Path.{_≡_, refl, sym, ap, _∙_}
 use mathlib.Core.List.{List}
 use mathlib.Core.Logic.{inl, inr, ⊎-elim}
-use Prim.Native.Nat.{ℕ, _+_, _≤_, _<_}
+use Prim.Native.Nat.{ℕ, _+_, _≤_}
 use native.Mathlib.Omega.{arith}
-use lib.ListN.{length, getD, set, length-set}
+use lib.ListN.{length, getD, length-set}
 use lib.Seq.{getD-set-same, getD-set-other}
 use Rattle.sequence.proofs.Counts.{isMark-same, isMark-cases, isMark-le-one}
 use Rattle.sequence.specs.Definition1.{isMark}
 use Rattle.edit.specs.Maps.{isFree}
 use Rattle.removal.specs.Frees.{GivenBack, Freed}
-
-pub given-back : (m : List ℕ) (block : ℕ) → block < length m → GivenBack block m (set m block 0)
-given-back m block inside = record { inside = inside; freed = refl }
 
 module _ (block : ℕ) (m n : List ℕ) (given : GivenBack block m n) where
   at-block : getD n block 0 ≡ 0

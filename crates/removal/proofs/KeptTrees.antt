@@ -21,9 +21,6 @@ use Rattle.removal.specs.Mends.{AllGood}
 pub all-good : (p : List ℕ) (h : ℕ) (es : List (List ℕ)) → AllGood p h es → All (GoodEntry p h) es
 all-good p h es good = all-map (λ e. SoundChild p h (linkIn e) × TrueEntry p h e) (GoodEntry p h) (λ e g. record { sound = g .0; true = g .1 }) es good
 
-pub good-all : (p : List ℕ) (h : ℕ) (es : List (List ℕ)) → All (GoodEntry p h) es → AllGood p h es
-good-all p h es good = all-map (GoodEntry p h) (λ e. SoundChild p h (linkIn e) × TrueEntry p h e) (λ e g. (g .sound, g .true)) es good
-
 module _ {These : ℕ → Type 0} (p q : List ℕ) (only : Only These p q) (h : ℕ) (es : List (List ℕ)) (good : All (GoodEntry p h) es)
     (apart : (x : ℕ) → 1 ≤ count x (joined (blocksIn p h) es) → These x → ⊥) where
   trees-same : All (λ e. SameBlocks (blocksIn p h e) p q) es

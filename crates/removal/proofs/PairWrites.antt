@@ -1,7 +1,7 @@
 -- The parent's entries after its two children were joined or shared out: one written and one taken out, or both written.
 -- Assumes nothing.
 use mathlib.Core.Path.{_≡_, refl, sym, ap, ap₂, subst, _∙_}
-use mathlib.Core.List.{List, [], _∷_, _++_, map, append-assoc}
+use mathlib.Core.List.{List, [], _∷_, _++_, append-assoc}
 use mathlib.Core.Logic.{⊎-elim}
 use Prim.Native.Nat.{ℕ, zero, suc, _+_, _≤_, _<_}
 use native.Mathlib.Omega.{arith}
@@ -107,12 +107,6 @@ module _ (p m : List ℕ) (h b k left right : ℕ) (pair : PairOf p m h b k left
           ap (λ (x : ℕ). marksIn h (shapeAt p h x)) (pair .rightIs),
           pair .ready .short,
         )
-
-    pub left-small : left < wordLimit
-    left-small = omega (arith, two-nodes .first .0 .inside, pair .ready .map .longest)
-
-    pub right-small : right < wordLimit
-    right-small = omega (arith, two-nodes .second .0 .inside, pair .ready .map .longest)
 
     -- the left one's entry written
     module _ (s : Summary) (r : List ℕ) (put : PutEntry b k left s q r) where

@@ -21,7 +21,7 @@ use Rattle.pool.proofs.Leaves.{length-leaf}
 use Rattle.pool.proofs.Lists.{all-mapped}
 use Rattle.pool.proofs.Sums.{sumBelow-two}
 use Rattle.pool.specs.Blocks.{entries, link}
-use Rattle.pool.specs.Bytes.{shares, from}
+use Rattle.pool.specs.Bytes.{from}
 use Rattle.pool.specs.Sound.{SoundBlock, Tells}
 use Rattle.pool.specs.Trees.{shapeAt}
 use Rattle.blocks.proofs.Branches.{entry-link, entry-below, entry-count}
@@ -58,9 +58,6 @@ module _ (p m : List ℕ) (h b k : ℕ) (ready : ShortReady p m h b k) where
   part : (j : ℕ) → j < entries p b → SoundPart p (least oneToAByte h - 1) h (link p b j)
   part j inside =
       ⊎-elim (λ w. rw (w .0) (ready .child)) (λ w. fewer p (least oneToAByte h) (least oneToAByte h - 1) h (link p b j) (omega arith) (ready .others j inside (w .0) .0)) (isMark-cases k j)
-
-  pub child-inside : link p b k < shares p
-  child-inside = ready .child .0 .inside
 
   some-good : (j many : ℕ) → j + many ≤ entries p b → ((i : ℕ) → j ≤ i → i < j + many → i ≡ k → ⊥) → AllGood p h (from (entryBytes p b) j many)
   some-good j many fits other =

@@ -1,3 +1,4 @@
+-- The laws of Definition 1 are exported as a whole: some are there for readers and applied nowhere.
 pub mod Alphabets
 pub mod Counts
 pub mod Edits

@@ -1,12 +1,12 @@
 -- Rank by itself: at both ends, from one place to the next, and over a stretch.
 -- Assumes nothing.
-use mathlib.Core.Path.{_≡_, refl, ap, _∙_}
+use mathlib.Core.Path.{_≡_, refl, ap}
 use mathlib.Core.List.{List}
 use Prim.Native.Nat.{ℕ, suc, _+_, _-_, _≤_, _<_}
 use native.Mathlib.Nat.{le-refl, sub-self}
 use native.Mathlib.Omega.{arith}
 use lib.ListN.{length, getD, take, drop, length-drop}
-use lib.Seq.{take-all, take-take, getD-drop}
+use lib.Seq.{take-all, getD-drop}
 use Rattle.sequence.specs.Definition1.{isMark, count, access, rank}
 use Rattle.sequence.proofs.Counts.{count-one, count-take-le}
 use Rattle.sequence.proofs.Measures.{count-additive, measure-take-le, measure-stretch, measure-stretches, measure-monotone, measure-step}
@@ -69,10 +69,3 @@ module _ (c : ℕ) (xs : List ℕ) where
       let at-i : a + (i - a) ≡ i = omega arith in
       let within : i - a < length (drop a xs) = simp length-drop (omega arith) in
       rw e (rw (getD-drop, at-i, count-one) at (measure-step (count c) (count-additive c) (drop a xs) (i - a) within))
-
-  -- rank in a part that starts at a, of n marks: the count from a up to the place
-  pub rank-in-part : (a n i : ℕ) → i ≤ n → rank c (take n (drop a xs)) i ≡ count c (take (a + i - a) (drop a xs))
-  unfolding rank
-  rank-in-part a n i h =
-      let e : i ≡ a + i - a = omega arith in
-      ap (count c) (take-take i n (drop a xs) h) ∙ ap (λ (k : ℕ). count c (take k (drop a xs))) e

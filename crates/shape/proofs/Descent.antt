@@ -1,14 +1,12 @@
--- Going down by any additive measure comes to the leaf that takes the place; the queries of Definition 1 are then those of the leaf.
+-- Going down by any additive measure comes to the leaf that takes the place.
 -- Assumes nothing.
-use mathlib.Core.Path.{_≡_, sym, ap, subst, _∙_}
+use mathlib.Core.Path.{_≡_, sym, subst, _∙_}
 use mathlib.Core.List.{List, [], _∷_, _++_, append-assoc, append-nil}
 use Prim.Native.Nat.{ℕ, zero, suc, _+_, _-_, _≤_}
 use native.Mathlib.Omega.{arith}
-use lib.ListN.{length, take, length-append}
+use lib.ListN.{length}
 use lib.Seq.{take-append-seam, getD-append-seam}
-use Rattle.sequence.specs.Definition1.{count, access, rank, select}
-use Rattle.sequence.proofs.Measures.{Additive, count-additive, measure-nil, measure-middle}
-use Rattle.sequence.proofs.Seams.{access-middle, select-middle}
+use Rattle.sequence.proofs.Measures.{Additive, measure-nil}
 use Rattle.shape.specs.Nested.{Node, joined, total, flat}
 use Rattle.shape.specs.Level.{Takes, seat, rest, chosen}
 use Rattle.shape.specs.Paths.{Leads, path, leafAt, leftOf, rightOf}
@@ -71,31 +69,3 @@ module _ (g : List ℕ → ℕ) (additive : Additive g) where
       (λ before x after t. subst (λ p. Leads g (suc h) j p (before ++ x ∷ after)) (sym (path-takes g h j before x after t))
       (leads-level h j before x after (path g h (j - total (λ z. g (flat h z)) before) x) t (path-leads h (j - total (λ z. g (flat h z)) before) x)))
       (omega arith)
-
--- The queries, at the leaf that the path to a place leads to.
-module _ (h i : ℕ) (x : Node h) (place : i ≤ length (flat h x)) where
-  pub access-leaf : 1 ≤ i → access (flat h x) i ≡ access (leafAt h (path length h i x) x) (i - length (leftOf h (path length h i x) x))
-  access-leaf one =
-      let l : Leads length h i (path length h i x) x = path-leads length length-append h i x in
-      ap (λ xs. access xs i) (l .marks)
-      ∙ access-middle (leftOf h (path length h i x) x) (leafAt h (path length h i x) x) (rightOf h (path length h i x) x) i (omega (arith, l .past)) (l .within place)
-
-  -- any additive measure up to a place: rank, length
-  pub measure-leaf : (g : List ℕ → ℕ) → Additive g
-      → g (take i (flat h x)) ≡ g (leftOf h (path length h i x) x) + g (take (i - length (leftOf h (path length h i x) x)) (leafAt h (path length h i x) x))
-  measure-leaf g additive =
-      let l : Leads length h i (path length h i x) x = path-leads length length-append h i x in
-      ap (λ xs. g (take i xs)) (l .marks)
-      ∙ measure-middle g additive (leftOf h (path length h i x) x) (leafAt h (path length h i x) x) (rightOf h (path length h i x) x) i (omega (arith, l .past)) (l .within place)
-
-pub rank-leaf : (c h i : ℕ) (x : Node h) → i ≤ length (flat h x)
-    → rank c (flat h x) i ≡ count c (leftOf h (path length h i x) x) + rank c (leafAt h (path length h i x) x) (i - length (leftOf h (path length h i x) x))
-unfolding rank
-rank-leaf c h i x place = measure-leaf h i x place (count c) (count-additive c)
-
-pub select-leaf : (c h j : ℕ) (x : Node h) → 1 ≤ j → j ≤ count c (flat h x)
-    → select c (flat h x) j ≡ length (leftOf h (path (count c) h j x) x) + select c (leafAt h (path (count c) h j x) x) (j - count c (leftOf h (path (count c) h j x) x))
-select-leaf c h j x one place =
-    let l : Leads (count c) h j (path (count c) h j x) x = path-leads (count c) (count-additive c) h j x in
-    ap (λ xs. select c xs j) (l .marks)
-    ∙ select-middle (leftOf h (path (count c) h j x) x) (leafAt h (path (count c) h j x) x) (rightOf h (path (count c) h j x) x) c j (omega (arith, l .past)) (l .within place)

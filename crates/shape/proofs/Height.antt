@@ -43,13 +43,6 @@ module _ (s : Sizes) (proper : Proper s) (u : ℕ) (small : u ≤ s .leafLeast) 
   pub root-doubles : (h : ℕ) (x : Node (suc h)) → FilledFrom s 2 (suc h) x → u * 2 ^ suc h ≤ marksIn (suc h) x
   root-doubles h x p = branch-doubles h x (p .0 .enough) (all-map (Filled s h) (λ y. u * 2 ^ h ≤ marksIn h y) (marks-double h) x (p .1))
 
-  node-height-most : (h : ℕ) (x : Node h) → FilledT s (record { height = h; root = x }) → u * 2 ^ h ≤ max u (marksIn h x)
-  node-height-most zero x p = omega arith
-  node-height-most (suc h) x p = omega (arith, root-doubles h x p)
-
-  pub height-most : (t : Tree) → FilledT s t → u * 2 ^ t .height ≤ max u (length (marksT t))
-  height-most t p = node-height-most (t .height) (t .root) p
-
   node-depth-most : 1 ≤ u → (h : ℕ) (x : Node h) → FilledT s (record { height = h; root = x }) → 2 ^ h ≤ max 1 (marksIn h x / u)
   node-depth-most one zero x p = omega arith
   node-depth-most one (suc h) x p =

@@ -12,8 +12,8 @@ use Rattle.shape.specs.Depth.{DepthRule}
 use Rattle.shape.specs.Fill.{FilledT}
 use Rattle.shape.specs.Blocks.{blocksT}
 use Rattle.shape.specs.Paths.{depthT}
-use Rattle.shape.proofs.Room.{blocks-most, blocks-shares}
-use Rattle.shape.proofs.Height.{height-most, height-below, depth-most, depth-rule, depth-one}
+use Rattle.shape.proofs.Room.{blocks-shares}
+use Rattle.shape.proofs.Height.{height-below, depth-rule, depth-one}
 
 pub oneToAByte-proper : Proper oneToAByte
 oneToAByte-proper = record { leafHalves = refl; leafTwo = omega arith; branchHalves = refl; branchTwo = omega arith; shareOne = omega arith; leafShares = omega arith }
@@ -23,19 +23,9 @@ twoToAByte-proper = record { leafHalves = refl; leafTwo = omega arith; branchHal
 
 -- Marks one to a byte, as document 01 says it.
 module _ (t : Tree) (filled : FilledT oneToAByte t) where
-  pub blocks-at-most : blocksT t ≤ max 1 (length (marksT t) / marksPerShare - 1)
-  blocks-at-most = blocks-most oneToAByte oneToAByte-proper t filled
-
   -- it never holds more than q blocks
   pub blocks-in-shares : (q : ℕ) → 1 ≤ q → length (marksT t) ≤ marksPerShare * q → blocksT t ≤ q
   blocks-in-shares q one room = blocks-shares oneToAByte oneToAByte-proper t q one room filled
-
-  pub height-at-most : marksPerDepth * 2 ^ t .height ≤ max marksPerDepth (length (marksT t))
-  height-at-most = height-most oneToAByte oneToAByte-proper marksPerDepth (omega arith) t filled
-
-  -- 2^(d - 1) is at most m, and so at most m · m
-  pub depth-at-most : (i : ℕ) → 2 ^ (depthT i t - 1) ≤ max 1 (length (marksT t) / marksPerDepth)
-  depth-at-most i = depth-most oneToAByte oneToAByte-proper marksPerDepth (omega arith) (omega arith) i t filled
 
   pub depth-in-rule : (i : ℕ) → 2 ^ (depthT i t - 1) ≤ max 1 (length (marksT t) / marksPerDepth) * max 1 (length (marksT t) / marksPerDepth)
   depth-in-rule i = depth-rule oneToAByte oneToAByte-proper marksPerDepth (omega arith) (omega arith) i t filled
@@ -47,10 +37,6 @@ module _ (t : Tree) (filled : FilledT oneToAByte t) where
   -- document 01's rule
   pub depth-keeps-rule : (i : ℕ) → DepthRule (length (marksT t)) (depthT i t)
   depth-keeps-rule i = record { most = depth-in-rule i; one = depth-is-one i }
-
-  -- and so it is as long as one leaf can bear the marks
-  pub leaf-is-one : (i : ℕ) → length (marksT t) ≤ oneToAByte .leafMost → depthT i t ≡ 1
-  leaf-is-one i few = depth-one oneToAByte oneToAByte-proper (oneToAByte .leafLeast) (omega arith) i t filled (omega arith)
 
   -- within the largest pool
   pub height-in-pool : length (marksT t) ≤ mostMarks → t .height ≤ mostHeight

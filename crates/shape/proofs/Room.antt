@@ -1,7 +1,7 @@
 -- How many blocks a tree has: a filled node has marks for one share more than it has blocks.
 -- Assumes nothing.
-use Prim.Native.Nat.{ℕ, zero, suc, _-_, _*_, _/_, _≤_, max}
-use native.Mathlib.Nat.{mul-le-mul-left, le-of-mul-le-mul-left, le-div-iff-mul-le, le-trans, mul-comm}
+use Prim.Native.Nat.{ℕ, zero, suc, _-_, _*_, _≤_}
+use native.Mathlib.Nat.{mul-le-mul-left, le-of-mul-le-mul-left, le-trans}
 use native.Mathlib.Omega.{arith}
 use lib.ListN.{length, length-append}
 use Rattle.sequence.specs.Items.{All}
@@ -29,20 +29,11 @@ module _ (s : Sizes) (proper : Proper s) where
   pub root-room : (h : ℕ) (x : Node (suc h)) → FilledFrom s 2 (suc h) x → s .share * suc (blocks (suc h) x) ≤ marksIn (suc h) x
   root-room h x p = branch-room h x (p .0 .enough) (all-map (Filled s h) (λ y. s .share * suc (blocks h y) ≤ marksIn h y) (room h) x (p .1))
 
-  node-blocks-most : (h : ℕ) (x : Node h) → FilledT s (record { height = h; root = x }) → blocks h x ≤ max 1 (marksIn h x / s .share - 1)
-  node-blocks-most zero x p = omega arith
-  node-blocks-most (suc h) x p =
-      let q : suc (blocks (suc h) x) ≤ marksIn (suc h) x / s .share = (le-div-iff-mul-le (proper .shareOne)) .1 (rw mul-comm (root-room h x p)) in
-      omega arith
-
   node-blocks-shares : (h : ℕ) (x : Node h) (q : ℕ) → 1 ≤ q → marksIn h x ≤ s .share * q → FilledT s (record { height = h; root = x }) → blocks h x ≤ q
   node-blocks-shares zero x q one fits p = one
   node-blocks-shares (suc h) x q one fits p =
       let r : suc (blocks (suc h) x) ≤ q = le-of-mul-le-mul-left (le-trans (root-room h x p) fits) (proper .shareOne) in
       omega arith
-
-  pub blocks-most : (t : Tree) → FilledT s t → blocksT t ≤ max 1 (length (marksT t) / s .share - 1)
-  blocks-most t p = node-blocks-most (t .height) (t .root) p
 
   -- a tree that keeps to its room keeps to its shares
   pub blocks-shares : (t : Tree) (q : ℕ) → 1 ≤ q → length (marksT t) ≤ s .share * q → FilledT s t → blocksT t ≤ q

@@ -7,8 +7,8 @@ use Prim.Native.Nat.{ℕ, suc, _+_, _-_, _≤_, _<_}
 use native.Mathlib.Nat.{eq-zero-or-pos}
 use native.Mathlib.Numerals.{add-one}
 use native.Mathlib.Omega.{arith}
-use lib.ListN.{length, take, drop, getD, length-drop}
-use lib.Seq.{length-take-le, take-append-seam, drop-append-add, getD-append-seam}
+use lib.ListN.{length, drop}
+use lib.Seq.{take-append-seam, drop-append-add, getD-append-seam}
 use Rattle.sequence.proofs.Measures.{Additive, measure-nil}
 use Rattle.shape.specs.Nested.{joined, total}
 use Rattle.shape.specs.Level.{Takes, seat, rest, chosen, inChild}
@@ -43,12 +43,6 @@ module _ {A : Type 0} (f : A → ℕ) where
       cond-lt i (f b) _ _ (omega (arith, t .past (omega arith))) ∙ ap suc (seat-takes (i - f b) [] x after (takes-rest i b [] x after t))
   seat-takes i (b ∷ c ∷ before) x after t =
       cond-lt i (f b) _ _ (omega (arith, t .past (omega arith))) ∙ ap suc (seat-takes (i - f b) (c ∷ before) x after (takes-rest i b (c ∷ before) x after t))
-
-  -- by the item's number, as code has it
-  pub takes-at : (i : ℕ) (xs : List A) (k : ℕ) (d : A) → (0 < k → total f (take k xs) < i) → (suc k < length xs → i ≤ total f (take k xs) + f (getD xs k d))
-      → k < length xs → Takes f i (take k xs) (getD xs k d) (drop (suc k) xs)
-  takes-at i xs k d past reach inside =
-      record { past = rw (length-take-le k xs (omega arith)) past; reach = rw length-drop (λ (l : 0 < length xs - suc k). reach (omega arith)) }
 
   pub rest-takes : (i : ℕ) (before : List A) (x : A) (after : List A) → Takes f i before x after → rest f i (before ++ x ∷ after) ≡ i - total f before
   unfolding rest

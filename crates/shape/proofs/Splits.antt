@@ -17,7 +17,7 @@ use Rattle.shape.specs.Nested.{Node, total, marksIn}
 use Rattle.shape.specs.Sizes.{Sizes, Proper, least, most}
 use Rattle.shape.specs.Level.{Takes, halves, chop, shorter, mend, rest, chosen, inChild}
 use Rattle.shape.specs.Trees.{Tree, insertNode, deleteNode, grown, shrunk, insertT, deleteT}
-use Rattle.shape.specs.Fill.{Within, Filled, FilledFrom, FilledT, rootLeast}
+use Rattle.shape.specs.Fill.{Filled, FilledFrom, FilledT, rootLeast}
 use Rattle.shape.specs.Blocks.{nodesBelow, blocks, blocksT, divides, splits, splitsT}
 use Rattle.shape.proofs.Choice.{by-leb}
 use Rattle.shape.proofs.Folds.{total-append, total-one, total-suc}
@@ -52,12 +52,6 @@ chop-length m n true ys e fits =
     (λ (full : m ≤ n). ap length (chop-halves m ys (omega arith)))
     (λ (room : n < m). ap length (chop-fits m ys (omega arith)))
 chop-length m n false ys e fits = ap length (chop-fits m ys (omega arith))
-
--- an insert makes one piece or two of any node
-pub insertNode-one-or-two : (s : Sizes) (c h i : ℕ) (x : Node h) → Within 1 2 (length (insertNode s c h i x))
-unfolding insertNode
-insertNode-one-or-two s c zero i x = chop-one-or-two (most s zero) (insert c i x)
-insertNode-one-or-two s c (suc h) i x = chop-one-or-two (most s (suc h)) (inChild (marksIn h) (insertNode s c h) i x)
 
 module _ (s : Sizes) (proper : Proper s) where
   -- a node that splits makes two pieces, any other one

@@ -2,13 +2,12 @@
 -- Assumes nothing.
 use mathlib.Core.Path.{_≡_, sym, ap, ap₂, _∙_}
 use mathlib.Core.Bool.{cond, _&&_}
-use mathlib.Core.List.{List, [], _∷_, _++_, append-assoc}
-use Prim.Native.Nat.{ℕ, suc, _+_, _-_, _≤_, _<_, min}
+use mathlib.Core.List.{List, [], _∷_, _++_}
+use Prim.Native.Nat.{ℕ, suc, _+_, _-_, _≤_, min}
 use native.Mathlib.Omega.{arith}
 use lib.Dec.{leb}
 use lib.ListN.{length, take, length-append}
 use Rattle.sequence.specs.Definition1.{count, access, rank, select}
-use Rattle.sequence.specs.Items.{All}
 use Rattle.sequence.proofs.Measures.{Additive, count-additive, measure-middle}
 use Rattle.sequence.proofs.Seams.{access-middle, select-middle}
 use Rattle.shape.specs.Nested.{Node, joined, total, flat, marksIn}
@@ -19,7 +18,6 @@ use Rattle.shape.specs.Fill.{Within}
 use Rattle.shape.specs.Blocks.{divides, splits}
 use Rattle.shape.proofs.Folds.{joined-append, total-joined}
 use Rattle.shape.proofs.Seat.{rest-takes, chosen-takes, inChild-takes, takes-past, takes-within}
-use Rattle.shape.proofs.Mend.{mend-none, mend-first, mend-left}
 
 -- Edits. An insert behind a child's last mark goes to the front of the next child, and to the end of a child only where it is the last.
 module _ (s : Sizes) (h i : ℕ) (before : List (Node h)) (x : Node h) (after : List (Node h)) (t : Takes (marksIn h) i before x after) where
@@ -38,29 +36,6 @@ module _ (s : Sizes) (h i : ℕ) (before : List (Node h)) (x : Node h) (after : 
   pub splits-takes : splits s (suc h) i (before ++ x ∷ after) ≡ splits s h (i - total (marksIn h) before) x + cond (divides s (suc h) i (before ++ x ∷ after)) 1 0
   unfolding splits
   splits-takes = ap₂ (λ j y. splits s h j y + cond (divides s (suc h) i (before ++ x ∷ after)) 1 0) (rest-takes (marksIn h) i before x after t) (chosen-takes (marksIn h) i before x after t)
-
--- A delete's three outcomes, where the other children are large enough.
-module _ (s : Sizes) (h i : ℕ) where
-  -- the child is still large enough
-  pub deleteNode-stays : (before : List (Node h)) (x : Node h) (after : List (Node h)) → Takes (marksIn h) i before x after
-      → All (λ z. least s h ≤ length z) (before ++ deleteNode s h (i - total (marksIn h) before) x ∷ after)
-      → deleteNode s (suc h) i (before ++ x ∷ after) ≡ before ++ deleteNode s h (i - total (marksIn h) before) x ∷ after
-  deleteNode-stays before x after t enough = deleteNode-takes s h i before x after t ∙ mend-none (least s h) (most s h) _ enough
-
-  -- the first child is short, and is mended with the second
-  pub deleteNode-first : (x y : Node h) (after : List (Node h)) → Takes (marksIn h) i [] x (y ∷ after) → length (deleteNode s h (i - 0) x) < least s h
-      → deleteNode s (suc h) i (x ∷ y ∷ after) ≡ chop (most s h) (deleteNode s h (i - 0) x ++ y) ++ after
-  deleteNode-first x y after t short = deleteNode-takes s h i [] x (y ∷ after) t ∙ mend-first (least s h) (most s h) (deleteNode s h (i - 0) x) y after short
-
-  -- any other child is mended with the one before it
-  pub deleteNode-left : (before : List (Node h)) (x y : Node h) (after : List (Node h)) → Takes (marksIn h) i (before ++ x ∷ []) y after
-      → All (λ z. least s h ≤ length z) before → least s h ≤ length x → length (deleteNode s h (i - total (marksIn h) (before ++ x ∷ [])) y) < least s h
-      → deleteNode s (suc h) i (before ++ x ∷ y ∷ after) ≡ before ++ (chop (most s h) (x ++ deleteNode s h (i - total (marksIn h) (before ++ x ∷ [])) y) ++ after)
-  deleteNode-left before x y after t enough long short =
-      ap (deleteNode s (suc h) i) (sym (append-assoc before (x ∷ []) (y ∷ after)))
-      ∙ deleteNode-takes s h i (before ++ x ∷ []) y after t
-      ∙ ap (mend (least s h) (most s h)) (append-assoc before (x ∷ []) (deleteNode s h (i - total (marksIn h) (before ++ x ∷ [])) y ∷ after))
-      ∙ mend-left (least s h) (most s h) before x (deleteNode s h (i - total (marksIn h) (before ++ x ∷ [])) y) after enough long short
 
 -- Queries. What is left of j is in the child's range.
 module _ (g : List ℕ → ℕ) (additive : Additive g) (h j : ℕ) (before : List (Node h)) (x : Node h) (after : List (Node h)) (t : Takes (λ y. g (flat h y)) j before x after) where

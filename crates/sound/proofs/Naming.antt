@@ -4,7 +4,7 @@ use mathlib.Core.Bool.{Bool, true, false, cond}
 use mathlib.Core.List.{List, []}
 use mathlib.Core.Logic.{inl, inr, ⊎-elim}
 use mathlib.Core.Path.{_≡_, refl, sym, ap, _∙_}
-use Prim.Native.Nat.{ℕ, _+_, _≤_, _<_}
+use Prim.Native.Nat.{ℕ, _+_, _≤_}
 use native.Mathlib.Omega.{arith}
 use lib.Dec.{eqb}
 use borrow.Author.Tests.{eq-eqb, ne-eqb}
@@ -12,8 +12,7 @@ use Rattle.entries.proofs.Totals.{sum-more, sum-all}
 use Rattle.geometry.specs.Layout.{recordSize, kindClosed, qAt}
 use Rattle.geometry.specs.Limits.{names, mostAlphabet}
 use Rattle.geometry.specs.declared.Record.{Record}
-use Rattle.pool.specs.Blocks.{entries}
-use Rattle.pool.specs.Bytes.{shares, recordAt}
+use Rattle.pool.specs.Bytes.{recordAt}
 use Rattle.pool.specs.Names.{recordOf, blocksOf}
 use Rattle.pool.specs.Shares.{promisedShares}
 use Rattle.pool.specs.Sound.{SoundBelow, OpenName}
@@ -23,13 +22,12 @@ use Rattle.pool.proofs.Written.{closed-record}
 use Rattle.pool.proofs.Summaries.{own-marks}
 use Rattle.sequence.specs.Alphabet.{sumBelow}
 use Rattle.shape.specs.Fill.{rootLeast}
-use Rattle.shape.specs.Sizes.{oneToAByte, most}
 use Rattle.sound.specs.Maps.{Walked}
 use Rattle.sound.specs.Parts.{Zeros, OpenRecord, MarksFit, WalkedTree, SoundName}
 use Rattle.sound.specs.Says.{Says}
 use Rattle.sound.proofs.Deciding.{denied, say-same, say-equal}
 use Rattle.sound.proofs.Walking.{below-of, under-of, fit-of}
-use Rattle.sound.proofs.Walks.{walk-no, walk-same, walk-test, walk-found}
+use Rattle.sound.proofs.Walks.{walk-no, walk-same, walk-test}
 
 -- The tree of an open name.
 module _ (p : List ℕ) (name : ℕ) where

@@ -17,7 +17,7 @@ use Rattle.pool.specs.Sound.{SoundBlock, SoundBelow, Tells}
 use Rattle.pool.specs.Trees.{blocksAt}
 use Rattle.pool.proofs.Summaries.{tells-own, own-told}
 use Rattle.shape.specs.Nested.{joined}
-use Rattle.shape.specs.Sizes.{oneToAByte, least, most}
+use Rattle.shape.specs.Sizes.{oneToAByte, least}
 use Rattle.sound.specs.Maps.{Walked}
 use Rattle.sound.specs.Parts.{MarksFit, SoundUnder, WalkedTree, SoundChildren, Matches}
 use Rattle.sound.specs.Says.{Says}

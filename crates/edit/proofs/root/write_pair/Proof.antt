@@ -5,8 +5,8 @@ use borrow.Author.Needs.{needs}
 use Rattle.edit.proofs.root.write_pair.Statement.{statement}
 use Rattle.edit.proofs.root.write_pair.Tie as tie
 
-empty-branch-requires : tie.Need-empty-branch-requires
-empty-branch-requires c κs = search needs
+empty-block-requires : tie.Need-empty-block-requires
+empty-block-requires c κs = search needs
 
 put-entry-requires : tie.Need-put-entry-requires
 put-entry-requires c κs = search needs
@@ -23,4 +23,4 @@ returns c = search pair-written
 pub write-pair-spec : {M : Type 1} → statement M
 write-pair-spec =
     tie.close
-    (tie.spec empty-branch-requires put-entry-requires put-entry-requires-2 same-length returns)
+    (tie.spec empty-block-requires put-entry-requires put-entry-requires-2 same-length returns)

@@ -14,8 +14,8 @@ cast-take-block c = search needs
 take-block-requires : tie.Need-take-block-requires
 take-block-requires c κs = search block-there
 
-empty-leaf-requires : tie.Need-empty-leaf-requires
-empty-leaf-requires c κs = search needs
+empty-block-requires : tie.Need-empty-block-requires
+empty-block-requires c κs = search needs
 
 cast-opened : tie.Need-cast-opened
 cast-opened c = search needs
@@ -45,7 +45,7 @@ open-spec =
     add-take-block
     cast-take-block
     take-block-requires
-    empty-leaf-requires
+    empty-block-requires
     cast-opened
     cast-opened-2
     opened-requires
