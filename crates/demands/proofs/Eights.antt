@@ -8,8 +8,6 @@ use lib.ListN.{length, take, drop, length-append}
 use lib.Seq.{take-at, drop-at}
 use Rattle.geometry.specs.Limits.{frameSize}
 use Rattle.pool.specs.Bytes.{from}
-use Rattle.protocol.specs.Frames.{bytesOfAnswer}
-use Rattle.protocol.specs.declared.Answer.{Answer}
 use Rattle.shape.specs.Nested.{joined}
 use Rattle.demands.specs.Accepted.{eights}
 
@@ -34,7 +32,3 @@ module _ {A : Type 0} (f : A → List ℕ) (eight : (x : A) → length (f x) ≡
   cut-frames xs =
       let many : length (joined f xs) / frameSize ≡ length xs = omega (arith, length-of-frames xs) in
       rw many (cut-from [] 0 xs refl)
-
-pub length-of-answer : (a : Answer) → length (bytesOfAnswer a) ≡ frameSize
-unfolding bytesOfAnswer
-length-of-answer a = refl
