@@ -9,6 +9,12 @@ use Prim.Native.Nat.{ℕ, _+_, _-_, _*_, _/_, _≤_}
 use native.Mathlib.Omega.{arith}
 use lib.ListN.{length, take, drop, length-map, take-append-drop}
 use lib.Seq.{length-take-le}
+use Rattle.batches.specs.Answers.{lineOfAnswer}
+use Rattle.batches.specs.Batch.{draftOf, bytesOf, keptIn, completed, PutsLine, BatchRead, Completes}
+use Rattle.batches.specs.declared.Batch.{Batch}
+use Rattle.batches.proofs.Completed.{kept-in-drafts}
+use Rattle.batches.proofs.Cut.{frame-of-held}
+use Rattle.batches.proofs.Framed.{commandsOf, fits-lines, length-of-batch}
 use Rattle.geometry.specs.Limits.{frameSize, longestCommands, directorySize, blockSize}
 use Rattle.hex.specs.Lines.{frameOf, lineSize}
 use Rattle.hex.specs.declared.read.Reading.{Reading}
@@ -32,13 +38,10 @@ use Rattle.protocol.specs.State as State
 use Rattle.shape.specs.Nested.{joined}
 use Rattle.shape.specs.Trees.{Tree}
 use Rattle.shape.proofs.Folds.{joined-append}
-use Rattle.sessions.specs.Batch.{draftOf, bytesOf, keptIn, completed, PutsLine, BatchRead, Completes, Asks, Answers}
-use Rattle.sessions.specs.Session.{responseTo, answersToLines, stateAfterLines, lineOfAnswer, atStart, writtenFor, sessionOf}
+use Rattle.sessions.specs.Call.{Asks, Answers}
+use Rattle.sessions.specs.Session.{responseTo, answersToLines, stateAfterLines, atStart, writtenFor, sessionOf}
 use Rattle.sessions.specs.Stream.{readFrom, Follows, Starts, TakesIn, Ends}
-use Rattle.sessions.specs.declared.batch.Batch.{Batch}
-use Rattle.sessions.proofs.Completed.{kept-in-drafts, completed-drafts, state-after-lines}
-use Rattle.sessions.proofs.Cut.{frame-of-held}
-use Rattle.sessions.proofs.Framed.{commandsOf, commands-in-batch, fits-lines, length-of-batch}
+use Rattle.sessions.proofs.Called.{commands-in-batch, state-after-lines, completed-drafts}
 
 -- what is at the front of a buffer, in front of its rest
 front-and-rest : (out front : List ℕ) (n : ℕ) → take n out ≡ front → out ≡ front ++ drop n out

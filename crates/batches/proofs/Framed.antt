@@ -1,13 +1,12 @@
--- The commands of a batch: the bytes of its frames, one behind the other, stand for its frames in order, since what digits spell fits.
+-- The commands of a batch: what digits spell fits the bytes of a frame, and each frame has eight.
 -- Assumes nothing.
 use mathlib.Core.Bool.{Bool, true, false, cond}
-use mathlib.Core.Path.{_≡_, refl, ap, ap₂, _∙_}
-use mathlib.Core.List.{List, [], _∷_, _++_, map}
+use mathlib.Core.Path.{_≡_, refl}
+use mathlib.Core.List.{List, [], _∷_, map}
 use Prim.Native.Nat.{ℕ, _+_, _*_, _^_, _<_}
 use native.Mathlib.Omega.{arith}
 use lib.Dec.{eqb}
 use lib.ListN.{length, take, drop, length-append, length-take}
-use lib.Seq.{take-all}
 use Rattle.geometry.specs.Limits.{frameSize}
 use Rattle.hex.specs.Digits.{allDigits, numberOf}
 use Rattle.hex.specs.Lines.{frameOf, spelled, lineDigits, isFrame}
@@ -15,14 +14,10 @@ use Rattle.hex.specs.declared.read.Reading.{Reading}
 use Rattle.hex.specs.declared.read.Reading.the-variants.{Frame, Bad}
 use Rattle.hex.proofs.Frames.{all-digits-part}
 use Rattle.hex.proofs.Numbers.{second-of-both, number-fits}
-use Rattle.index.specs.Runs.{commandsIn}
-use Rattle.index.proofs.Cutting.{commands-append}
-use Rattle.pool.specs.Bytes.{from}
-use Rattle.protocol.specs.Frames.{commandOf, eightBytes, bytesOfCommand, Fitting}
+use Rattle.protocol.specs.Frames.{eightBytes, Fitting}
 use Rattle.protocol.specs.declared.Command.{Command}
-use Rattle.protocol.proofs.Bytes.{command-of-bytes}
 use Rattle.shape.specs.Nested.{joined}
-use Rattle.sessions.specs.Batch.{bytesOf}
+use Rattle.batches.specs.Batch.{bytesOf}
 
 -- the command of a frame's numbers
 abbrev pub commandFrom : ℕ → ℕ → ℕ → ℕ → ℕ → Command
@@ -67,23 +62,6 @@ fits-line line = go (isFrame line) (λ is. second-of-both (eqb (length line) lin
     go : (is : Bool) → (is ≡ true → allDigits line ≡ true) → Fits (cond is (spelled line) Bad)
     go true digits = fits-spelled line (digits refl)
     go false digits = tt
-
--- eight bytes are one command
-one-command : (bytes : List ℕ) → length bytes ≡ frameSize → commandsIn bytes ≡ commandOf bytes ∷ []
-unfolding commandsIn from
-one-command bytes long = rw long (ap (λ l. commandOf l ∷ []) (take-all frameSize bytes (omega arith)))
-
--- the bytes of lines are the commands of their frames
-pub commands-in-batch : (rs : List Reading) → AllFit rs → commandsIn (joined bytesOf rs) ≡ commandsOf rs
-unfolding commandsIn from bytesOfCommand
-commands-in-batch [] fits = refl
-commands-in-batch (Frame code name symbol fourth number ∷ rs) fits =
-    let bytes : List ℕ = eightBytes code name symbol fourth number in
-    commands-append bytes (joined bytesOf rs) refl
-    ∙ ap₂ (λ xs ys. xs ++ ys)
-    (one-command bytes refl ∙ ap (λ c. c ∷ []) (command-of-bytes (commandFrom code name symbol fourth number) (fits .0)))
-    (commands-in-batch rs (fits .1))
-commands-in-batch (Bad ∷ rs) fits = commands-in-batch rs (fits .1)
 
 pub fits-lines : (lines : List (List ℕ)) → AllFit (map frameOf lines)
 fits-lines [] = tt
