@@ -23,6 +23,8 @@ pub record Asks (commands out : List ℕ) (lines : ℕ) : Type 0 where
 -- the lines of a call have been run and answered, from the state that the pool stood for
 pub record Answers (p q commands out out' : List ℕ) (lines : ℕ) : Type 0 where
   pub long : length out' ≡ length out
+  pub samePool : length q ≡ length p
+  pub refused : (Sound p → ⊥) → q ≡ p
   pub sound : Sound p → Sound q
   pub state : (ls : List (List ℕ)) → commands ≡ joined bytesOf (map frameOf ls) → Sound p → meaning q ≡ stateAfterLines (meaning p) (map frameOf ls)
   pub answers : (ls : List (List ℕ)) → commands ≡ joined bytesOf (map frameOf ls) → lines ≡ length ls

@@ -70,7 +70,7 @@ fn answer(pool: &mut [u8], commands: &[u8], out: &mut [u8], lines: usize) -> usi
 // The input is over: answers its last line, if that has no line feed but a byte.
 pub fn finish(before: Gathered, keep: &mut [u8], pool: &mut [u8], out: &mut [u8]) -> usize
     requires { ⌜ lineSize ≤ length (now out) ⌝ }
-    ensures { λ r. ⌜ Ends before (now (keep .entry)) (now (pool .entry)) (now (out .exit)) r ⌝ }
+    ensures { λ r. ⌜ Ends before (now (keep .entry)) (now (keep .exit)) (now (pool .entry)) (now (pool .exit)) (now (out .entry)) (now (out .exit)) r ⌝ }
 {
     let line = lines::finish(before, keep);
     if line.length == 0 {
