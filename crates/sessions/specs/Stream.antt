@@ -37,6 +37,7 @@ pub record Over (input written pool : List ℕ) : Type 0 where
 
 -- nothing has been read, and the pool is what format leaves of it
 pub record Starts (p q : List ℕ) (result : Gathered) : Type 0 where
+  -- what format gives: 0, or 101 and the pool as it was
   pub status : ℕ
   pub formats : Formats p status q
   pub samePool : length q ≡ length p
