@@ -15,12 +15,13 @@ use Rattle.index.specs.Calls.{CommandsAllowed, StatusOfCall, Ran}
 use Rattle.index.specs.Runs.{Runs, eights, commandsIn}
 use Rattle.index.specs.declared.Outcome.{Outcome}
 use Rattle.pool.specs.Sound.{Sound}
+use Rattle.protocol.proofs.Bytes.{length-of-answer}
 use Rattle.protocol.specs.Frames.{bytesOfAnswer}
 use Rattle.protocol.specs.declared.Answer.{Answer}
 use Rattle.sequence.specs.Items.{All}
 use Rattle.shape.specs.Nested.{joined}
 use Rattle.demands.specs.Accepted.{Frame, framesRun, answerFrames}
-use Rattle.demands.proofs.Eights.{length-of-frames, cut-frames, length-of-answer}
+use Rattle.demands.proofs.Eights.{length-of-frames, cut-frames}
 use Rattle.demands.proofs.FramesRun.{IsStep, each-frame}
 
 -- what was found in order where 0 is given

@@ -9,8 +9,6 @@ use lib.Seq.{take-at, drop-at}
 use Rattle.geometry.specs.Limits.{frameSize}
 use Rattle.index.specs.Runs.{eights}
 use Rattle.pool.specs.Bytes.{from}
-use Rattle.protocol.specs.Frames.{bytesOfAnswer}
-use Rattle.protocol.specs.declared.Answer.{Answer}
 use Rattle.shape.specs.Nested.{joined}
 
 module _ {A : Type 0} (f : A → List ℕ) (eight : (x : A) → length (f x) ≡ frameSize) where
@@ -34,7 +32,3 @@ module _ {A : Type 0} (f : A → List ℕ) (eight : (x : A) → length (f x) ≡
   cut-frames xs =
       let many : length (joined f xs) / frameSize ≡ length xs = omega (arith, length-of-frames xs) in
       rw many (cut-from [] 0 xs refl)
-
-pub length-of-answer : (a : Answer) → length (bytesOfAnswer a) ≡ frameSize
-unfolding bytesOfAnswer
-length-of-answer a = refl

@@ -15,6 +15,7 @@ use Rattle.hex.proofs.Written.{length-of-line}
 use Rattle.lines.specs.Lines.{Stands, Holds, Gathers, Finishes, ended, left, trim, piece, endBytes, linesOf}
 use Rattle.lines.specs.declared.Gathered.{Gathered}
 use Rattle.lines.specs.declared.Gathering.{Gathering}
+use Rattle.lines.proofs.Chunks.{rest-is}
 use Rattle.lines.proofs.Cut.{ended-append, left-append, ended-plain, left-plain, ended-line, left-line}
 use Rattle.lines.proofs.Held.{no-last-line, last-line}
 use Rattle.protocol.specs.Commands.{insertCode}
@@ -154,13 +155,6 @@ none-yet chunk before keep out =
       room = λ room. room;
       follows = λ input earlier f. rw append-nil f;
     }
-
--- the part of a chunk from a place on
-pub rest-is : (chunk : List ℕ) (at : ℕ) → take (length chunk - at) (drop at chunk) ≡ drop at chunk
-rest-is chunk at = take-all (length chunk - at) (drop at chunk) (omega (arith, length-drop at chunk))
-
-pub length-rest : (chunk : List ℕ) (at : ℕ) → length (take (length chunk - at) (drop at chunk)) ≡ length chunk - at
-length-rest chunk at = ap length (rest-is chunk at) ∙ length-drop at chunk
 
 -- two steps, one after the other
 pub both-taken : (chunk : List ℕ) (before between : Progress) (keep keep₁ keep₂ out out₁ out₂ : List ℕ) (at filled : ℕ) (step : Taken)

@@ -1,6 +1,6 @@
 -- Frames and their eight bytes: reading gives back what was written and writing what was read, and what the code reads and puts.
 -- Assumes nothing.
-use mathlib.Core.Path.{_≡_, sym, ap, _∙_}
+use mathlib.Core.Path.{_≡_, refl, sym, ap, _∙_}
 use mathlib.Core.List.{List, [], _∷_}
 use Prim.Native.Nat.{ℕ, zero, suc, _+_, _/_, _%_, _^_, _≤_, _<_}
 use native.Mathlib.Nat.{add-zero, div-add-mod'}
@@ -10,8 +10,9 @@ use lib.Dec.{lit<}
 use lib.ListN.{length, getD, take, drop, set, drop-of-length-le}
 use lib.Seq.{drop-cons, getD-take, getD-drop, sets-eq, paste}
 use Rattle.geometry.specs.Limits.{frameSize}
-use Rattle.protocol.specs.Frames.{numberOf, commandOf, bytesOfCommand, Fitting}
+use Rattle.protocol.specs.Frames.{numberOf, commandOf, bytesOfCommand, bytesOfAnswer, Fitting}
 use Rattle.sequence.specs.Alphabet.{AllBelow}
+use Rattle.protocol.specs.declared.Answer.{Answer}
 use Rattle.protocol.specs.declared.Command.{Command}
 
 -- a number is read back from its four bytes
@@ -29,6 +30,11 @@ command-of-bytes c fits =
     ap
     (λ n. record { code = c .code; name = c .name; symbol = c .symbol; fourth = c .fourth; number = n })
     (number-of-bytes (c .number) (fits .number))
+
+-- an answer has eight bytes
+pub length-of-answer : (a : Answer) → length (bytesOfAnswer a) ≡ frameSize
+unfolding bytesOfAnswer
+length-of-answer a = refl
 
 -- what stands in such a list is below the limit
 pub below-at : (limit : ℕ) (numbers : List ℕ) (i : ℕ) → 0 < limit → AllBelow limit numbers → getD numbers i 0 < limit

@@ -2,6 +2,7 @@
 -- Assumes nothing.
 use mathlib.Core.List.{[], _∷_}
 use mathlib.Core.Path.{_≡_, refl}
+use Rattle.batches.specs.Answers.{badAnswer, lineOfAnswer, lineOfBytes}
 use Rattle.hex.specs.Digits.{valueOf, digitOf, digitsOf}
 use Rattle.hex.specs.Lines.{frameOf, spelled, lineOf, digitsOfFrame}
 use Rattle.lines.specs.Lines.{trims, trim, ended, left, linesOf}
@@ -15,8 +16,7 @@ use Rattle.shape.specs.Level.{halves, chop}
 use Rattle.shape.specs.Nested.{joined}
 use Rattle.shape.specs.Paths.{path}
 use Rattle.shape.specs.Trees.{insertNode, grown, insertT}
-use Rattle.sessions.specs.Batch.{lineOfBytes}
-use Rattle.sessions.specs.Session.{badAnswer, answersToLines, lineOfAnswer, writtenFor, sessionOf}
+use Rattle.sessions.specs.Session.{answersToLines, writtenFor, sessionOf}
 
 -- document 01's input and output, whole
 pub example-session : sessionOf (joined lineOfBytes input) ≡ joined lineOfBytes output

@@ -2,21 +2,28 @@
 -- before them, they are the session so far.
 -- Assumes nothing.
 use mathlib.Core.Bool.{Bool, false}
-use mathlib.Core.Logic.{inr}
+use mathlib.Core.Logic.{inr, ⊎-elim}
 use mathlib.Core.Path.{_≡_, refl, sym, ap, ap₂, _∙_}
 use mathlib.Core.List.{List, [], _∷_, _++_, map, map-append, append-nil}
 use Prim.Native.Nat.{ℕ, _+_, _-_, _*_, _/_, _≤_}
+use native.Mathlib.Decide.{ℕ-discrete}
 use native.Mathlib.Omega.{arith}
 use lib.ListN.{length, take, drop, length-map, take-append-drop}
 use lib.Seq.{length-take-le}
+use Rattle.batches.specs.Answers.{lineOfAnswer}
+use Rattle.batches.specs.Batch.{draftOf, bytesOf, keptIn, completed, PutsLine, BatchRead, Completes}
+use Rattle.batches.specs.declared.Batch.{Batch}
+use Rattle.batches.proofs.Completed.{kept-in-drafts}
+use Rattle.batches.proofs.Cut.{frame-of-held}
+use Rattle.batches.proofs.Framed.{commandsOf, fits-lines, length-of-batch}
 use Rattle.geometry.specs.Limits.{frameSize, longestCommands, directorySize, blockSize}
 use Rattle.hex.specs.Lines.{frameOf, lineSize}
 use Rattle.hex.specs.declared.read.Reading.{Reading}
 use Rattle.index.specs.Calls.{Formats, Answered, Ran}
 use Rattle.index.specs.Runs.{commandsIn}
 use Rattle.index.specs.declared.Outcome.{Outcome}
-use Rattle.index.proofs.Following.{runs-sound}
-use Rattle.index.proofs.Outcomes.{one-status, room-by-machine, meaning-by-machine}
+use Rattle.index.proofs.Following.{runs-sound, runs-long}
+use Rattle.index.proofs.Outcomes.{length-cases, all-passed, one-status, room-by-machine, meaning-by-machine}
 use Rattle.lines.specs.Lines.{Stands, Holds, Finishes, ended, left, linesOf}
 use Rattle.lines.specs.declared.Gathered.{Gathered}
 use Rattle.lines.proofs.Cut.{ended-append, left-append}
@@ -25,20 +32,17 @@ use Rattle.machine.specs.Machine.{trees}
 use Rattle.pool.specs.Formatted.{formatted}
 use Rattle.pool.specs.Meaning.{meaning}
 use Rattle.pool.specs.Sound.{LengthAllowed, Sound}
-use Rattle.pool.proofs.FormattedSound.{formatted-sound, formatted-meaning}
+use Rattle.pool.proofs.FormattedSound.{length-formatted, formatted-sound, formatted-meaning}
 use Rattle.protocol.specs.Frames.{bytesOfAnswer}
 use Rattle.protocol.specs.Respond.{answersTo, stateAfter}
 use Rattle.protocol.specs.State as State
 use Rattle.shape.specs.Nested.{joined}
 use Rattle.shape.specs.Trees.{Tree}
 use Rattle.shape.proofs.Folds.{joined-append}
-use Rattle.sessions.specs.Batch.{draftOf, bytesOf, keptIn, completed, PutsLine, BatchRead, Completes, Asks, Answers}
-use Rattle.sessions.specs.Session.{responseTo, answersToLines, stateAfterLines, lineOfAnswer, atStart, writtenFor, sessionOf}
-use Rattle.sessions.specs.Stream.{readFrom, Follows, Starts, TakesIn, Ends}
-use Rattle.sessions.specs.declared.batch.Batch.{Batch}
-use Rattle.sessions.proofs.Completed.{kept-in-drafts, completed-drafts, state-after-lines}
-use Rattle.sessions.proofs.Cut.{frame-of-held}
-use Rattle.sessions.proofs.Framed.{commandsOf, commands-in-batch, fits-lines, length-of-batch}
+use Rattle.sessions.specs.Call.{Asks, Answers}
+use Rattle.sessions.specs.Session.{responseTo, answersToLines, stateAfterLines, atStart, writtenFor, sessionOf}
+use Rattle.sessions.specs.Stream.{readFrom, Follows, Over, Starts, TakesIn, Ends}
+use Rattle.sessions.proofs.Called.{commands-in-batch, state-after-lines, completed-drafts}
 
 -- what is at the front of a buffer, in front of its rest
 front-and-rest : (out front : List ℕ) (n : ℕ) → take n out ≡ front → out ≡ front ++ drop n out
@@ -50,6 +54,14 @@ module _ (p q commands room answers out out' : List ℕ) (lines : ℕ) (r : Outc
   answered sound =
       ran .accepted (one-status p commands room (r .status) 0 (ran .status) (inr (inr (inr (inr (refl, sound .allowed, asks .allowed, fits, sound))))))
 
+  -- a call that is refused leaves the pool as it was, and one that isn't leaves its length
+  refused : (r .status ≡ 0 → ⊥) → q ≡ p
+  refused other = ran .refused other .1
+
+  same-pool : Dec (r .status ≡ 0) → length q ≡ length p
+  same-pool (yes zero) = runs-long (commandsIn commands) p q (ran .accepted zero .answers) (ran .accepted zero .runs)
+  same-pool (no other) = ap length (refused other)
+
   -- the commands are those of the lines that are frames
   frames-run : (ls : List (List ℕ)) → commands ≡ joined bytesOf (map frameOf ls) → commandsIn commands ≡ commandsOf (map frameOf ls)
   frames-run ls is = ap commandsIn is ∙ commands-in-batch (map frameOf ls) (fits-lines ls)
@@ -59,6 +71,8 @@ module _ (p q commands room answers out out' : List ℕ) (lines : ℕ) (r : Outc
   lines-answered =
       record {
         long = done .long;
+        samePool = same-pool (ℕ-discrete (r .status) 0);
+        refused = λ unsound. refused (λ zero. unsound (all-passed p commands room (r .status) zero (ran .status) .sound));
         sound = λ sound. runs-sound (commandsIn commands) p q (answered sound .answers) sound (answered sound .runs);
         state =
             λ ls is sound.
@@ -125,6 +139,12 @@ written-with : (input written front : List ℕ) (before : Gathered) (keep p : Li
 written-with input written front before keep p more f is =
     ap₂ (λ w l. w ++ l) (f .lines) (is ∙ ap (λ s. joined lineOfAnswer (answersToLines s more)) (f .meant)) ∙ sym (written-append (readFrom input) more)
 
+-- and the state after them
+state-with : (input written : List ℕ) (before : Gathered) (keep p q : List ℕ) (more : List Reading) → Follows input written before keep p
+    → meaning q ≡ stateAfterLines (meaning p) more → meaning q ≡ stateAfterLines atStart (readFrom input ++ more)
+state-with input written before keep p q more f is =
+    is ∙ ap (λ s. stateAfterLines s more) (f .meant) ∙ sym (state-append (readFrom input) more atStart)
+
 -- a chunk's lines were read and answered
 module _ (chunk : List ℕ) (before : Gathered) (keep keep' p q out out₁ out₂ zeros commands : List ℕ) (batch : Batch) (filled : ℕ)
     (read : BatchRead chunk before keep keep' out out₁ zeros commands batch) (room : frameSize ≤ length zeros) (few : length commands ≤ longestCommands) where
@@ -141,7 +161,9 @@ module _ (chunk : List ℕ) (before : Gathered) (keep keep' p q out out₁ out�
         onward = λ line some. read .onward line room some;
         room = omega (arith, read .reads .room, done .long);
         same = read .reads .same;
+        samePool = done .samePool;
         long = done .long ∙ read .sameOut;
+        refused = done .refused;
         follows = follows;
       }
     where
@@ -163,33 +185,40 @@ module _ (chunk : List ℕ) (before : Gathered) (keep keep' p q out out₁ out�
             line = rw (left-append [] input taken) (r .rest (left [] input) (f .line));
             room = omega (arith, r .same, f .room);
             sound = done .sound (f .sound);
-            meant =
-                done .state (r .lines) (r .bytes) (f .sound)
-                ∙ ap (λ s. stateAfterLines s more) (f .meant)
-                ∙ sym (state-append (readFrom input) more atStart)
-                ∙ ap (stateAfterLines atStart) (sym all-read);
+            meant = state-with input written before keep p q more f (done .state (r .lines) (r .bytes) (f .sound)) ∙ ap (stateAfterLines atStart) (sym all-read);
             lines = written-with input written (take filled out₂) before keep p more f front ∙ ap writtenFor (sym all-read);
           }
 
 -- the input is over
-module _ (before : Gathered) (keep keep' p : List ℕ) (last : Gathered) (finishes : Finishes before keep keep' last) where
+module _ (before : Gathered) (keep keep' p out : List ℕ) (last : Gathered) (finishes : Finishes before keep keep' last) where
   -- it ended with a line feed, or is empty
-  pub ends-whole : (out : List ℕ) → last .length ≡ 0 → Ends before keep p out 0
+  pub ends-whole : last .length ≡ 0 → Ends before keep keep' p p out out 0
   unfolding sessionOf linesOf
-  ends-whole out none =
+  ends-whole none =
       record {
         room = omega arith;
-        whole =
-            λ input written f.
-            ap (λ l. writtenFor (map frameOf (ended false [] input ++ l)))
-            (no-last-line (left [] input) last keep' (finishes .line false (left [] input) (f .line)) none)
-            ∙ ap (λ l. writtenFor (map frameOf l)) (append-nil (ended false [] input))
-            ∙ sym (f .lines)
-            ∙ sym (append-nil written);
+        same = finishes .same;
+        samePool = refl;
+        long = refl;
+        refused = λ unsound. refl;
+        over = over;
       }
+    where
+      over : (input written : List ℕ) → Follows input written before keep p → Over input (written ++ take 0 out) p
+      over input written f =
+          let all-read : map frameOf (linesOf false input) ≡ readFrom input =
+          ap (λ l. map frameOf (ended false [] input ++ l))
+          (no-last-line (left [] input) last keep' (finishes .line false (left [] input) (f .line)) none)
+          ∙ ap (map frameOf) (append-nil (ended false [] input))
+          in
+          record {
+            sound = f .sound;
+            meant = f .meant ∙ ap (stateAfterLines atStart) (sym all-read);
+            whole = ap writtenFor all-read ∙ sym (f .lines) ∙ sym (append-nil written);
+          }
 
   -- a last line has no line feed
-  module _ (front out out₁ out₂ zeros commands q : List ℕ) (frames result : ℕ) (some : last .length ≡ 0 → ⊥) (is-front : front ≡ take (last .kept) keep')
+  module _ (front out₁ out₂ zeros commands q : List ℕ) (frames result : ℕ) (some : last .length ≡ 0 → ⊥) (is-front : front ≡ take (last .kept) keep')
       (puts : PutsLine front 0 0 out out₁ zeros commands frames) (room : lineSize ≤ length out) (few : length commands ≤ longestCommands) where
     drafts : take (lineSize * 1) out₁ ≡ joined draftOf (map frameOf (front ∷ []))
     drafts = puts .draft ∙ sym (append-nil (draftOf (frameOf front)))
@@ -200,33 +229,51 @@ module _ (before : Gathered) (keep keep' p : List ℕ) (last : Gathered) (finish
     pub asks-last : Asks (take (frameSize * frames) commands) out₁ 1
     asks-last = asks-lines (front ∷ []) commands out₁ 1 frames refl drafts bytes (omega (arith, puts .sameOut)) (puts .room) few
 
-    pub ends-open : result ≡ lineSize * 1 → Answers p q (take (frameSize * frames) commands) out₁ out₂ 1 → Ends before keep p out₂ result
+    pub ends-open : result ≡ lineSize * 1 → Answers p q (take (frameSize * frames) commands) out₁ out₂ 1 → Ends before keep keep' p q out out₂ result
     unfolding sessionOf linesOf
     ends-open is done =
         record {
           room = omega (arith, puts .sameOut, done .long);
-          whole = whole;
+          same = finishes .same;
+          samePool = done .samePool;
+          long = done .long ∙ puts .sameOut;
+          refused = done .refused;
+          over = over;
         }
       where
-        whole : (input written : List ℕ) → Follows input written before keep p → sessionOf input ≡ written ++ take result out₂
-        whole input written f =
+        over : (input written : List ℕ) → Follows input written before keep p → Over input (written ++ take result out₂) q
+        over input written f =
             let line : List ℕ = left [] input in
+            let more : List Reading = map frameOf (front ∷ []) in
             let held : Holds line last keep' = finishes .line false line (f .line) in
             let reads-so : frameOf front ≡ frameOf line =
             ap frameOf is-front ∙ frame-of-held line last keep' held (omega (arith, finishes .same, f .room))
             in
-            let answered : take result out₂ ≡ joined lineOfAnswer (answersToLines (meaning p) (map frameOf (front ∷ []))) =
+            let all-read : map frameOf (linesOf false input) ≡ readFrom input ++ more =
+            ap (λ l. map frameOf (ended false [] input ++ l)) (last-line line last keep' held (omega (arith, some)))
+            ∙ map-append frameOf (ended false [] input) (line ∷ [])
+            ∙ ap (λ reading. readFrom input ++ (reading ∷ [])) (sym reads-so)
+            in
+            let answered : take result out₂ ≡ joined lineOfAnswer (answersToLines (meaning p) more) =
             ap (λ n. take n out₂) is ∙ done .answers (front ∷ []) bytes refl drafts (f .sound)
             in
-            ap (λ l. writtenFor (map frameOf (ended false [] input ++ l))) (last-line line last keep' held (omega (arith, some)))
-            ∙ ap writtenFor (map-append frameOf (ended false [] input) (line ∷ []) ∙ ap (λ reading. readFrom input ++ (reading ∷ [])) (sym reads-so))
-            ∙ sym (written-with input written (take result out₂) before keep p (map frameOf (front ∷ [])) f answered)
+            record {
+              sound = done .sound (f .sound);
+              meant = state-with input written before keep p q more f (done .state (front ∷ []) bytes (f .sound)) ∙ ap (stateAfterLines atStart) (sym all-read);
+              whole = ap writtenFor all-read ∙ sym (written-with input written (take result out₂) before keep p more f answered);
+            }
 
--- the program's pool is formatted, and nothing has been read
+-- the pool is formatted or as it was, and nothing has been read
 pub starts : (p q : List ℕ) (status : ℕ) (line : Gathered) → Formats p status q → ((returns : Bool) (keep : List ℕ) → Stands returns [] line keep) → Starts p q line
 unfolding ended left stateAfterLines writtenFor answersToLines
 starts p q status line formats stands =
     record {
+      status = status;
+      formats = formats;
+      samePool =
+          ⊎-elim (λ allowed. ap length (formats .allowed allowed .1) ∙ length-formatted (length p) allowed) (λ other. ap length (formats .refused other .1))
+          (length-cases (length p));
+      nothing = stands;
       follows =
           λ is keep enough.
           let allowed : LengthAllowed (length p) = record { whole = rw is refl; shortest = omega arith; longest = omega arith } in

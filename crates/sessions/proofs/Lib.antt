@@ -1,7 +1,3 @@
-pub mod Cut
-pub mod Digits
-pub mod Framed
-pub mod Completed
-pub mod Reading
+pub mod Called
 pub mod Following
 pub mod Examples

@@ -1,3 +1,3 @@
 pub mod Session
-pub mod Batch
+pub mod Call
 pub mod Stream

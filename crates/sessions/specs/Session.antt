@@ -3,9 +3,9 @@
 use mathlib.Core.Bool.{false}
 use mathlib.Core.List.{List, [], _∷_, map}
 use Prim.Native.Nat.{ℕ, _-_, _/_}
-use lib.ListN.{getD}
+use Rattle.batches.specs.Answers.{badAnswer, lineOfAnswer}
 use Rattle.geometry.specs.Limits.{programPool, directorySize, blockSize}
-use Rattle.hex.specs.Lines.{frameOf, numbersOf, lineOf}
+use Rattle.hex.specs.Lines.{frameOf}
 use Rattle.hex.specs.declared.read.Reading.{Reading}
 use Rattle.hex.specs.declared.read.Reading.the-variants.{Frame, Bad}
 use Rattle.lines.specs.Lines.{linesOf}
@@ -15,21 +15,6 @@ use Rattle.protocol.specs.State.{State, formatted}
 use Rattle.protocol.specs.declared.Answer.{Answer}
 use Rattle.shape.specs.Nested.{joined}
 use Rattle.shape.specs.Trees.{Tree}
-
--- the answer that has these numbers
-abbrev pub answerOf : List ℕ → Answer
-answerOf numbers =
-    record {
-      status = getD numbers 0 0;
-      name = getD numbers 1 0;
-      symbol = getD numbers 2 0;
-      depth = getD numbers 3 0;
-      value = getD numbers 4 0;
-    }
-
--- the answer to a bad line: FF00000000000000
-abbrev pub badAnswer : Answer
-badAnswer = answerOf (numbersOf Bad)
 
 -- what a line is answered, and the state after it: a frame is run, a bad line isn't
 abbrev pub responseTo : State Tree → Reading → Response Tree
@@ -46,10 +31,6 @@ answersToLines s (r ∷ rs) = responseTo s r .answer ∷ answersToLines (respons
 unfoldable pub stateAfterLines : State Tree → List Reading → State Tree
 stateAfterLines s [] = s
 stateAfterLines s (r ∷ rs) = stateAfterLines (responseTo s r .state) rs
-
--- an answer as a line: sixteen digits and a line feed
-abbrev pub lineOfAnswer : Answer → List ℕ
-lineOfAnswer a = lineOf (a .status) (a .name) (a .symbol) (a .depth) (a .value)
 
 -- the state of the program's pool, formatted
 abbrev pub atStart : State Tree

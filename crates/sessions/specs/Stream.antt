@@ -1,6 +1,6 @@
 -- What the state between two chunks stands for, and what each call of the program does to it.
 -- Assumes nothing.
-use mathlib.Core.Bool.{false}
+use mathlib.Core.Bool.{Bool, false}
 use mathlib.Core.Path.{_≡_}
 use mathlib.Core.List.{List, [], _++_, map}
 use Prim.Native.Nat.{ℕ, _≤_, _<_}
@@ -8,7 +8,8 @@ use lib.ListN.{length, take}
 use Rattle.geometry.specs.Limits.{programPool}
 use Rattle.hex.specs.Lines.{frameOf, lineSize}
 use Rattle.hex.specs.declared.read.Reading.{Reading}
-use Rattle.lines.specs.Lines.{Stands, ended, left}
+use Rattle.index.specs.Calls.{Formats}
+use Rattle.lines.specs.Lines.{Stands, ended, left, linesOf}
 use Rattle.lines.specs.declared.Gathered.{Gathered}
 use Rattle.pool.specs.Meaning.{meaning}
 use Rattle.pool.specs.Sound.{Sound}
@@ -28,9 +29,20 @@ pub record Follows (input written : List ℕ) (state : Gathered) (keep pool : Li
   pub meant : meaning pool ≡ stateAfterLines atStart (readFrom input)
   pub lines : written ≡ writtenFor (readFrom input)
 
--- nothing has been read, and the pool is formatted
-pub record Starts (p q : List ℕ) (line : Gathered) : Type 0 where
-  pub follows : length p ≡ programPool → (keep : List ℕ) → lineSize ≤ length keep → Follows [] [] line keep q
+-- after the whole input, with all this written: the session is whole, and the pool stands for the state after the frames of all lines
+pub record Over (input written pool : List ℕ) : Type 0 where
+  pub sound : Sound pool
+  pub meant : meaning pool ≡ stateAfterLines atStart (map frameOf (linesOf false input))
+  pub whole : sessionOf input ≡ written
+
+-- nothing has been read, and the pool is what format leaves of it
+pub record Starts (p q : List ℕ) (result : Gathered) : Type 0 where
+  -- what format gives: 0, or 101 and the pool as it was
+  pub status : ℕ
+  pub formats : Formats p status q
+  pub samePool : length q ≡ length p
+  pub nothing : (returns : Bool) (keep : List ℕ) → Stands returns [] result keep
+  pub follows : length p ≡ programPool → (keep : List ℕ) → lineSize ≤ length keep → Follows [] [] result keep q
 
 -- bytes were taken from the front of a chunk, and with the lines at the front of out what is written follows the input
 pub record TakesIn (chunk : List ℕ) (before : Gathered) (keep keep' p q out out' : List ℕ) (result : Taken) : Type 0 where
@@ -38,11 +50,18 @@ pub record TakesIn (chunk : List ℕ) (before : Gathered) (keep keep' p q out ou
   pub onward : lineSize ≤ length out → 0 < length chunk → 0 < result .taken
   pub room : result .filled ≤ length out'
   pub same : length keep' ≡ length keep
+  pub samePool : length q ≡ length p
   pub long : length out' ≡ length out
+  -- a pool that isn't sound stays as it was
+  pub refused : (Sound p → ⊥) → q ≡ p
   pub follows : (input written : List ℕ) → Follows input written before keep p
       → Follows (input ++ take (result .taken) chunk) (written ++ take (result .filled) out') (result .line) keep' q
 
 -- the input is over, and with the line at the front of out, if there is one, the session is whole
-pub record Ends (before : Gathered) (keep p out' : List ℕ) (result : ℕ) : Type 0 where
+pub record Ends (before : Gathered) (keep keep' p q out out' : List ℕ) (result : ℕ) : Type 0 where
   pub room : result ≤ length out'
-  pub whole : (input written : List ℕ) → Follows input written before keep p → sessionOf input ≡ written ++ take result out'
+  pub same : length keep' ≡ length keep
+  pub samePool : length q ≡ length p
+  pub long : length out' ≡ length out
+  pub refused : (Sound p → ⊥) → q ≡ p
+  pub over : (input written : List ℕ) → Follows input written before keep p → Over input (written ++ take result out') q

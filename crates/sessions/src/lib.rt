@@ -1,18 +1,20 @@
 // A session with the index: lines of digits that come in chunks, each answered by a line. specs/Session.antt says what is written for a
 // whole input; the functions here follow it chunk by chunk. All lines of a chunk go through one call of the index, as far as there is room.
-ghost use Prim.Native.Nat.{_≤_};
+ghost use mathlib.Core.Path.{_≡_};
+ghost use Prim.Native.Nat.{_*_, _≤_};
 ghost use lib.ListN.{length};
 ghost use Rattle.hex.specs.Lines.{lineSize};
+ghost use Rattle.sessions.specs.Call.{Asks, Answers};
 ghost use Rattle.sessions.specs.Stream.{Starts, TakesIn, Ends};
-use batch::answer;
-use batch::first_bytes;
-use batch::put_line;
-use batch::read_lines;
+use batches::complete;
+use batches::first_bytes;
+use batches::put_line;
+use batches::read_lines;
 use geometry::Record;
+use hex::LINE_SIZE;
 use index::format;
+use index::run;
 use lines::Gathered;
-
-mod batch;
 
 // What came of a chunk's bytes.
 pub struct Taken {
@@ -54,10 +56,21 @@ pub fn take_in(
     }
 }
 
+// Runs the commands and puts the answers at the places that were kept for them. Answers how many bytes the lines have.
+fn answer(pool: &mut [u8], commands: &[u8], out: &mut [u8], lines: usize) -> usize
+    requires { ⌜ Asks (now commands) (now out) lines ⌝ }
+    ensures { λ r. ⌜ (r ≡ lineSize * lines) × Answers (now (pool .entry)) (now (pool .exit)) (now (commands .entry)) (now (out .entry)) (now (out .exit)) lines ⌝ }
+{
+    let mut answers = [0u8; Record::LONGEST_COMMANDS];
+    run(pool, commands, &mut answers);
+    complete(out, lines, &answers);
+    LINE_SIZE * lines
+}
+
 // The input is over: answers its last line, if that has no line feed but a byte.
 pub fn finish(before: Gathered, keep: &mut [u8], pool: &mut [u8], out: &mut [u8]) -> usize
     requires { ⌜ lineSize ≤ length (now out) ⌝ }
-    ensures { λ r. ⌜ Ends before (now (keep .entry)) (now (pool .entry)) (now (out .exit)) r ⌝ }
+    ensures { λ r. ⌜ Ends before (now (keep .entry)) (now (keep .exit)) (now (pool .entry)) (now (pool .exit)) (now (out .entry)) (now (out .exit)) r ⌝ }
 {
     let line = lines::finish(before, keep);
     if line.length == 0 {

@@ -7,7 +7,7 @@ use borrow.Author.Needs.{needs}
 use lib.ListN.{length}
 use lib.Seq.{length-take-le}
 use Rattle.hex.specs.Lines.{lineSize}
-use Rattle.sessions.proofs.Reading.{length-rest}
+use Rattle.lines.proofs.Chunks.{length-rest}
 use Rattle.answers.proofs.answer_chunk.Statement.{statement}
 use Rattle.answers.proofs.answer_chunk.Tie as tie
 

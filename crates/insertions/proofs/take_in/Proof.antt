@@ -6,8 +6,9 @@ use Prim.Native.Nat.{ℕ, zero, suc, _+_, _-_, _≤_, _<_}
 use native.Mathlib.Omega.{arith}
 use borrow.Author.Needs.{needs}
 use lib.ListN.{length}
+use Rattle.lines.proofs.Chunks.{length-rest}
 use Rattle.insertions.specs.Stream.{TakesIn}
-use Rattle.insertions.proofs.Steps.{none-yet, both-taken, length-rest}
+use Rattle.insertions.proofs.Steps.{none-yet, both-taken}
 use Rattle.insertions.proofs.take_in.Statement.{statement}
 use Rattle.insertions.proofs.take_in.Tie as tie
 

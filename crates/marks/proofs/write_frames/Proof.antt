@@ -7,7 +7,7 @@ use borrow.Author.Needs.{needs}
 use lib.ListN.{length}
 use lib.Seq.{length-take-le}
 use Rattle.hex.specs.Lines.{lineSize}
-use Rattle.insertions.proofs.Steps.{length-rest}
+use Rattle.lines.proofs.Chunks.{length-rest}
 use Rattle.marks.proofs.write_frames.Statement.{statement}
 use Rattle.marks.proofs.write_frames.Tie as tie
 

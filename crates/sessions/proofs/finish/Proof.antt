@@ -14,7 +14,7 @@ same-length : tie.Need-same-length
 same-length c = search needs
 
 returns : tie.Need-returns
-returns c = ends-whole _ _ _ _ (c .before .before .before .before .finish .result) (c .before .before .before .before .finish .ensures) _ (c .if1 .taken)
+returns c = ends-whole _ _ _ _ _ (c .before .before .before .before .finish .result) (c .before .before .before .before .finish .ensures) (c .if1 .taken)
 
 first-bytes-requires : tie.Need-first-bytes-requires
 first-bytes-requires c κs = search needs
@@ -37,7 +37,7 @@ slice-aggregate-answer c = sym (length-take-le _ _ (search needs))
 answer-requires : tie.Need-answer-requires
 answer-requires c κs =
     let start = c .before .before .before .before .before .before .before .before .before .before .before .before .before .before .before .before .before .before .before .before in
-    asks-last _ _ _ (start .args .pool .now) (c .before .before .before .before .before .before .before .before .before .before .before .before .before .before .before .finish .result) (c .before .before .before .before .before .before .before .before .before .before .before .before .before .before .before .finish .ensures) _ _ _ (start .args .out .now) _ _ (start .args .pool .now) _ 0
+    asks-last _ _ _ (start .args .pool .now) _ (c .before .before .before .before .before .before .before .before .before .before .before .before .before .before .before .finish .result) (c .before .before .before .before .before .before .before .before .before .before .before .before .before .before .before .finish .ensures) _ _ (start .args .out .now) _ _ (start .args .pool .now) _ 0
     (c .before .before .before .before .before .before .before .before .before .before .before .if1 .left) (c .before .before .before .before .before .before .before .before .before .first-bytes .ensures) (c .before .before .before .before .before .before .put-line .ensures) (start .pre) (search needs)
 
 same-length-2 : tie.Need-same-length-2
@@ -53,7 +53,7 @@ returns-2 : tie.Need-returns-2
 returns-2 c =
     let start = c .before .before .before .before .before .before .before .before .before .before .before .before .before .before .before .before .before .before .before .before .before .before .before .before .before in
     let done = c .before .before .before .before .answer in
-    ends-open _ _ _ _ (c .before .before .before .before .before .before .before .before .before .before .before .before .before .before .before .before .before .before .before .before .finish .result) (c .before .before .before .before .before .before .before .before .before .before .before .before .before .before .before .before .before .before .before .before .finish .ensures) _ _ _ _ _ _ _ _ _
+    ends-open _ _ _ _ _ (c .before .before .before .before .before .before .before .before .before .before .before .before .before .before .before .before .before .before .before .before .finish .result) (c .before .before .before .before .before .before .before .before .before .before .before .before .before .before .before .before .before .before .before .before .finish .ensures) _ _ _ _ _ _ _ _
     (c .before .before .before .before .before .before .before .before .before .before .before .before .before .before .before .before .if1 .left) (c .before .before .before .before .before .before .before .before .before .before .before .before .before .before .first-bytes .ensures) (c .before .before .before .before .before .before .before .before .before .before .before .put-line .ensures) (start .pre) (search needs) (done .ensures .0) (done .ensures .1)
 
 pub finish-spec : {M : Type 1} → statement M

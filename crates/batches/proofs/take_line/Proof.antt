@@ -1,10 +1,10 @@
--- `sessions::batch::take_line` meets its contract: by whether the bytes taken end a line.
+-- `batches::take_line` meets its contract: by whether the bytes taken end a line.
 -- Assumes nothing.
 use native.Mathlib.Omega.{arith}
 use borrow.Author.Needs.{needs}
-use Rattle.sessions.proofs.Reading.{step-within, line-taken, none-taken}
-use Rattle.sessions.proofs.batch.take_line.Statement.{statement}
-use Rattle.sessions.proofs.batch.take_line.Tie as tie
+use Rattle.batches.proofs.Reading.{step-within, line-taken, none-taken}
+use Rattle.batches.proofs.take_line.Statement.{statement}
+use Rattle.batches.proofs.take_line.Tie as tie
 
 sub-gather : tie.Need-sub-gather
 sub-gather c = search needs

@@ -16,13 +16,14 @@ use Rattle.hex.proofs.Written.{length-of-line}
 use Rattle.lines.specs.Lines.{Stands, Holds, Gathers, ended, left, trim, piece, endBytes}
 use Rattle.lines.specs.declared.Gathered.{Gathered}
 use Rattle.lines.specs.declared.Gathering.{Gathering}
+use Rattle.lines.proofs.Chunks.{rest-is}
 use Rattle.lines.proofs.Cut.{ended-append, left-append, ended-plain, left-plain, ended-line, left-line}
 use Rattle.protocol.specs.Frames.{eightBytes, bytesOfAnswer}
 use Rattle.shape.specs.Nested.{joined}
 use Rattle.shape.proofs.Folds.{joined-append}
-use Rattle.sessions.specs.Batch.{draftOf, bytesOf, PutsLine, ReadsLines, ReadsOn, RoomForLine}
-use Rattle.sessions.specs.declared.batch.Batch.{Batch}
-use Rattle.sessions.proofs.Cut.{frame-of-held}
+use Rattle.batches.specs.Batch.{draftOf, bytesOf, PutsLine, ReadsLines, ReadsOn, RoomForLine}
+use Rattle.batches.specs.declared.Batch.{Batch}
+use Rattle.batches.proofs.Cut.{frame-of-held}
 
 -- a buffer's front after a piece was pasted behind it
 module _ (out out' put : List ℕ) (at size next : ℕ) (ends : at + size ≡ next) (long : length put ≡ size) (room : next ≤ length out)
@@ -99,13 +100,6 @@ reads-none chunk before keep out commands =
       are = λ gathered stands enough. refl;
       rest = λ gathered stands. stands;
     }
-
--- the part of a chunk from a place on
-pub rest-is : (chunk : List ℕ) (at : ℕ) → take (length chunk - at) (drop at chunk) ≡ drop at chunk
-rest-is chunk at = take-all (length chunk - at) (drop at chunk) (omega (arith, length-drop at chunk))
-
-pub length-rest : (chunk : List ℕ) (at : ℕ) → length (take (length chunk - at) (drop at chunk)) ≡ length chunk - at
-length-rest chunk at = ap length (rest-is chunk at) ∙ length-drop at chunk
 
 -- what bytes that were gathered behind others are to the lines
 module _ (chunk : List ℕ) (at : ℕ) (before : Gathered) (keep keep' : List ℕ) (g : Gathering) (gathers : Gathers false (drop at chunk) before keep keep' g)

@@ -11,15 +11,12 @@ use Rattle.geometry.specs.Limits.{frameSize}
 use Rattle.hex.specs.Lines.{frameOf, lineOf, lineSize}
 use Rattle.hex.specs.declared.read.Reading.{Reading}
 use Rattle.hex.specs.declared.read.Reading.the-variants.{Frame, Bad}
-use Rattle.index.specs.Calls.{CommandsAllowed}
 use Rattle.lines.specs.Lines.{Stands, ended, left}
 use Rattle.lines.specs.declared.Gathered.{Gathered}
-use Rattle.pool.specs.Meaning.{meaning}
-use Rattle.pool.specs.Sound.{Sound}
-use Rattle.protocol.specs.Frames.{commandOf, eightBytes}
+use Rattle.protocol.specs.Frames.{eightBytes}
 use Rattle.shape.specs.Nested.{joined}
-use Rattle.sessions.specs.Session.{badAnswer, answersToLines, stateAfterLines, lineOfAnswer}
-use Rattle.sessions.specs.declared.batch.Batch.{Batch}
+use Rattle.batches.specs.Answers.{badAnswer, lineOfAnswer, lineOfBytes}
+use Rattle.batches.specs.declared.Batch.{Batch}
 
 -- what is written for a line before the call: a line of zeros, or a bad line's answer
 abbrev pub draftOf : Reading → List ℕ
@@ -88,11 +85,6 @@ unfoldable pub keptIn : ℕ → List ℕ → ℕ
 keptIn zero draft = 0
 keptIn (suc lines) draft = cond (eqb (getD draft 0 0) keptByte) 1 0 + keptIn lines (drop lineSize draft)
 
--- the line of eight bytes
-unfoldable pub lineOfBytes : List ℕ → List ℕ
-lineOfBytes bytes =
-    lineOf (commandOf bytes .code) (commandOf bytes .name) (commandOf bytes .symbol) (commandOf bytes .fourth) (commandOf bytes .number)
-
 -- the first lines of a draft with the answers, in order, at the places that were kept for them
 unfoldable pub completed : ℕ → List ℕ → List ℕ → List ℕ
 completed zero draft answers = []
@@ -110,18 +102,3 @@ pub record PutsAnswer (at used : ℕ) (out out' answers : List ℕ) (result : �
 pub record Completes (lines : ℕ) (out out' answers : List ℕ) : Type 0 where
   pub long : length out' ≡ length out
   pub whole : take (lineSize * lines) out' ≡ completed lines out answers
-
--- what a call needs: commands that it takes, drafts within out, and no more places kept than there are commands
-pub record Asks (commands out : List ℕ) (lines : ℕ) : Type 0 where
-  pub allowed : CommandsAllowed (length commands)
-  pub room : lineSize * lines ≤ length out
-  pub kept : frameSize * keptIn lines out ≤ length commands
-
--- the lines of a call have been run and answered, from the state that the pool stood for
-pub record Answers (p q commands out out' : List ℕ) (lines : ℕ) : Type 0 where
-  pub long : length out' ≡ length out
-  pub sound : Sound p → Sound q
-  pub state : (ls : List (List ℕ)) → commands ≡ joined bytesOf (map frameOf ls) → Sound p → meaning q ≡ stateAfterLines (meaning p) (map frameOf ls)
-  pub answers : (ls : List (List ℕ)) → commands ≡ joined bytesOf (map frameOf ls) → lines ≡ length ls
-      → take (lineSize * lines) out ≡ joined draftOf (map frameOf ls) → Sound p
-      → take (lineSize * lines) out' ≡ joined lineOfAnswer (answersToLines (meaning p) (map frameOf ls))

@@ -1,13 +1,12 @@
--- The commands of a batch: the bytes of its frames, one behind the other, stand for its frames in order, since what digits spell fits.
+-- The commands of a batch: what digits spell fits the bytes of a frame, and each frame has eight.
 -- Assumes nothing.
 use mathlib.Core.Bool.{Bool, true, false, cond}
-use mathlib.Core.Path.{_≡_, refl, ap, ap₂, _∙_}
-use mathlib.Core.List.{List, [], _∷_, _++_, map}
-use Prim.Native.Nat.{ℕ, _+_, _*_, _^_, _<_}
+use mathlib.Core.Path.{_≡_, refl}
+use mathlib.Core.List.{List, [], _∷_, map}
+use Prim.Native.Nat.{ℕ, _*_, _^_, _<_}
 use native.Mathlib.Omega.{arith}
 use lib.Dec.{eqb}
 use lib.ListN.{length, take, drop, length-append, length-take}
-use lib.Seq.{take-all}
 use Rattle.geometry.specs.Limits.{frameSize}
 use Rattle.hex.specs.Digits.{allDigits, numberOf}
 use Rattle.hex.specs.Lines.{frameOf, spelled, lineDigits, isFrame}
@@ -15,14 +14,17 @@ use Rattle.hex.specs.declared.read.Reading.{Reading}
 use Rattle.hex.specs.declared.read.Reading.the-variants.{Frame, Bad}
 use Rattle.hex.proofs.Frames.{all-digits-part}
 use Rattle.hex.proofs.Numbers.{second-of-both, number-fits}
+<<<<<<< HEAD:crates/sessions/proofs/Framed.antt
 use Rattle.index.specs.Runs.{eights, commandsIn}
 use Rattle.index.proofs.Cutting.{commands-append}
 use Rattle.pool.specs.Bytes.{from}
 use Rattle.protocol.specs.Frames.{commandOf, eightBytes, bytesOfCommand, Fitting}
+=======
+use Rattle.protocol.specs.Frames.{eightBytes, Fitting}
+>>>>>>> 53fbbbb3e68b9c9251d50fefa373e57334ab1122:crates/batches/proofs/Framed.antt
 use Rattle.protocol.specs.declared.Command.{Command}
-use Rattle.protocol.proofs.Bytes.{command-of-bytes}
 use Rattle.shape.specs.Nested.{joined}
-use Rattle.sessions.specs.Batch.{bytesOf}
+use Rattle.batches.specs.Batch.{bytesOf}
 
 -- the command of a frame's numbers
 abbrev pub commandFrom : ℕ → ℕ → ℕ → ℕ → ℕ → Command
@@ -68,6 +70,7 @@ fits-line line = go (isFrame line) (λ is. second-of-both (eqb (length line) lin
     go true digits = fits-spelled line (digits refl)
     go false digits = tt
 
+<<<<<<< HEAD:crates/sessions/proofs/Framed.antt
 -- eight bytes are one command
 one-command : (bytes : List ℕ) → length bytes ≡ frameSize → commandsIn bytes ≡ commandOf bytes ∷ []
 unfolding commandsIn eights from
@@ -85,6 +88,8 @@ commands-in-batch (Frame code name symbol fourth number ∷ rs) fits =
     (commands-in-batch rs (fits .1))
 commands-in-batch (Bad ∷ rs) fits = commands-in-batch rs (fits .1)
 
+=======
+>>>>>>> 53fbbbb3e68b9c9251d50fefa373e57334ab1122:crates/batches/proofs/Framed.antt
 pub fits-lines : (lines : List (List ℕ)) → AllFit (map frameOf lines)
 fits-lines [] = tt
 fits-lines (line ∷ lines) = (fits-line line, fits-lines lines)

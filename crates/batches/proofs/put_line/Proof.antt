@@ -1,10 +1,10 @@
--- `sessions::batch::put_line` meets its contract: by what the line reads as.
+-- `batches::put_line` meets its contract: by what the line reads as.
 -- Assumes nothing.
 use mathlib.Core.Path.{sym, _∙_}
 use borrow.Author.Needs.{needs}
-use Rattle.sessions.proofs.Reading.{bad-put, frame-put}
-use Rattle.sessions.proofs.batch.put_line.Statement.{statement}
-use Rattle.sessions.proofs.batch.put_line.Tie as tie
+use Rattle.batches.proofs.Reading.{bad-put, frame-put}
+use Rattle.batches.proofs.put_line.Statement.{statement}
+use Rattle.batches.proofs.put_line.Tie as tie
 
 mul-at : tie.Need-mul-at
 mul-at c = search needs

@@ -1,10 +1,10 @@
--- `sessions::batch::answer` meets its contract: the call is accepted if the pool is sound, and its answers complete the drafts.
+-- `sessions::answer` meets its contract: the call is accepted if the pool is sound, and its answers complete the drafts.
 -- Assumes nothing.
 use mathlib.Core.Path.{refl}
 use borrow.Author.Needs.{needs}
 use Rattle.sessions.proofs.Following.{lines-answered}
-use Rattle.sessions.proofs.batch.answer.Statement.{statement}
-use Rattle.sessions.proofs.batch.answer.Tie as tie
+use Rattle.sessions.proofs.answer.Statement.{statement}
+use Rattle.sessions.proofs.answer.Tie as tie
 
 slice-aggregate-run : tie.Need-slice-aggregate-run
 slice-aggregate-run c = search needs

@@ -1,4 +1,4 @@
--- `sessions::batch::read_lines` meets its contract. The loop's invariant: the lines read so far, their drafts and commands. Each took a
+-- `batches::read_lines` meets its contract. The loop's invariant: the lines read so far, their drafts and commands. Each took a
 -- byte at least, so the loop isn't left before its first step where there is room.
 -- Assumes nothing.
 use mathlib.Core.Path.{_≡_, refl, _∙_}
@@ -6,10 +6,10 @@ use Prim.Native.Nat.{_-_}
 use native.Mathlib.Omega.{arith}
 use borrow.Author.Needs.{needs}
 use lib.ListN.{length}
-use Rattle.sessions.specs.Batch.{ReadsLines}
-use Rattle.sessions.proofs.Reading.{reads-none}
-use Rattle.sessions.proofs.batch.read_lines.Statement.{statement}
-use Rattle.sessions.proofs.batch.read_lines.Tie as tie
+use Rattle.batches.specs.Batch.{ReadsLines}
+use Rattle.batches.proofs.Reading.{reads-none}
+use Rattle.batches.proofs.read_lines.Statement.{statement}
+use Rattle.batches.proofs.read_lines.Tie as tie
 
 abbrev Inv-loop : tie.InvT-loop
 Inv-loop chunk keep₀ out₀ commands₀ batch₀ keep out commands batch =

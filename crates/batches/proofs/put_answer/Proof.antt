@@ -1,11 +1,11 @@
--- `sessions::batch::put_answer` meets its contract: by whether the place was kept. Where it was, the caller has an answer there.
+-- `batches::put_answer` meets its contract: by whether the place was kept. Where it was, the caller has an answer there.
 -- Assumes nothing.
 use mathlib.Core.Path.{refl}
 use native.Mathlib.Omega.{arith}
 use borrow.Author.Needs.{needs}
-use Rattle.sessions.proofs.Completed.{answer-put}
-use Rattle.sessions.proofs.batch.put_answer.Statement.{statement}
-use Rattle.sessions.proofs.batch.put_answer.Tie as tie
+use Rattle.batches.proofs.Completed.{answer-put}
+use Rattle.batches.proofs.put_answer.Statement.{statement}
+use Rattle.batches.proofs.put_answer.Tie as tie
 
 slice-read-if1 : tie.Need-slice-read-if1
 slice-read-if1 c = search needs

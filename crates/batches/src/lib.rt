@@ -5,13 +5,12 @@ ghost use Prim.Native.Nat.{_+_, _*_, _≤_};
 ghost use lib.ListN.{length, getD, take};
 ghost use Rattle.geometry.specs.Limits.{frameSize};
 ghost use Rattle.hex.specs.Lines.{lineSize};
-ghost use Rattle.sessions.specs.Batch.{PutsLine, ReadsOn, Asks, Answers, PutsAnswer, Completes, BatchRead, RoomForLine, keptByte, keptIn};
+ghost use Rattle.batches.specs.Batch.{PutsLine, ReadsOn, PutsAnswer, Completes, BatchRead, RoomForLine, keptByte, keptIn};
 use geometry::Record;
 use hex::LINE_SIZE;
 use hex::Reading;
 use hex::read_line;
 use hex::write_line;
-use index::run;
 use lines::Gathered;
 use lines::gather;
 use protocol::Answer;
@@ -140,19 +139,8 @@ pub fn put_line(
     frames + 1
 }
 
-// Runs the commands and puts the answers at the places that were kept for them. Answers how many bytes the lines have.
-pub fn answer(pool: &mut [u8], commands: &[u8], out: &mut [u8], lines: usize) -> usize
-    requires { ⌜ Asks (now commands) (now out) lines ⌝ }
-    ensures { λ r. ⌜ (r ≡ lineSize * lines) × Answers (now (pool .entry)) (now (pool .exit)) (now (commands .entry)) (now (out .entry)) (now (out .exit)) lines ⌝ }
-{
-    let mut answers = [0u8; Record::LONGEST_COMMANDS];
-    run(pool, commands, &mut answers);
-    complete(out, lines, &answers);
-    LINE_SIZE * lines
-}
-
 // Puts the answers, in order, at the places that were kept for them.
-fn complete(out: &mut [u8], lines: usize, answers: &[u8])
+pub fn complete(out: &mut [u8], lines: usize, answers: &[u8])
     requires { ⌜ (lineSize * lines ≤ length (now out)) × (frameSize * keptIn lines (now out) ≤ length (now answers)) ⌝ }
     ensures { λ _. ⌜ Completes lines (now (out .entry)) (now (out .exit)) (now (answers .entry)) ⌝ }
 {

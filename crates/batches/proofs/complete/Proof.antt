@@ -1,12 +1,12 @@
--- `sessions::batch::complete` meets its contract. The loop's invariant: what stands before, and what will be made of the rest, are the
+-- `batches::complete` meets its contract. The loop's invariant: what stands before, and what will be made of the rest, are the
 -- whole; the answers that are left suffice for the places that are.
 -- Assumes nothing.
 use Prim.Native.Nat.{_-_}
 use native.Mathlib.Omega.{arith}
 use borrow.Author.Needs.{needs}
-use Rattle.sessions.proofs.Completed.{Completing, completing-none, answer-there, completing-more, completing-all}
-use Rattle.sessions.proofs.batch.complete.Statement.{statement}
-use Rattle.sessions.proofs.batch.complete.Tie as tie
+use Rattle.batches.proofs.Completed.{Completing, completing-none, answer-there, completing-more, completing-all}
+use Rattle.batches.proofs.complete.Statement.{statement}
+use Rattle.batches.proofs.complete.Tie as tie
 
 abbrev Inv-loop : tie.InvT-loop
 Inv-loop out₀ lines answers used₀ line₀ out used line = Completing lines out₀ out answers line used

@@ -10,8 +10,7 @@ use Rattle.hex.proofs.Numbers.{digits-of-both}
 use Rattle.protocol.specs.Frames.{numberOf, commandOf, bytesOfAnswer}
 use Rattle.protocol.specs.declared.Answer.{Answer}
 use Rattle.protocol.proofs.Bytes.{number-of-bytes}
-use Rattle.sessions.specs.Batch.{lineOfBytes}
-use Rattle.sessions.specs.Session.{lineOfAnswer}
+use Rattle.batches.specs.Answers.{lineOfAnswer, lineOfBytes}
 
 -- eight digits go by the number below 2^32
 low-digits : (n : ℕ) → digitsOf 8 (n % 2 ^ 32) ≡ digitsOf 8 n

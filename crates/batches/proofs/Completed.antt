@@ -1,9 +1,8 @@
--- Drafts with their answers. The places that a batch's drafts keep are those of its frames, in order, so that the machine's answers to the
--- frames, put there, make the answers to all lines. The loop that puts them goes line by line: what stands before, and what will be made
--- of the rest, are always the whole.
+-- Drafts with their answers. The places that a batch's drafts keep are those of its frames, in order. The loop that puts the answers there
+-- goes line by line: what stands before, and what will be made of the rest, are always the whole.
 -- Assumes nothing.
 use mathlib.Core.Bool.{true, false}
-use mathlib.Core.Path.{_≡_, refl, sym, ap, ap₂, _∙_}
+use mathlib.Core.Path.{_≡_, refl, sym, ap, _∙_}
 use mathlib.Core.List.{List, [], _∷_, _++_, append-assoc, append-nil}
 use Prim.Native.Nat.{ℕ, suc, _+_, _-_, _*_, _≤_, _<_}
 use native.Mathlib.Nat.{add-zero, sub-zero}
@@ -19,32 +18,26 @@ use Rattle.hex.specs.Lines.{lineOf, lineSize, digitsOfFrame}
 use Rattle.hex.specs.declared.read.Reading.{Reading}
 use Rattle.hex.specs.declared.read.Reading.the-variants.{Frame, Bad}
 use Rattle.hex.proofs.Written.{length-of-line}
-use Rattle.machine.specs.Machine.{trees}
-use Rattle.protocol.specs.Frames.{commandOf, bytesOfAnswer}
-use Rattle.protocol.specs.Respond.{respond, answersTo, stateAfter}
-use Rattle.protocol.specs.State.{State}
-use Rattle.protocol.specs.declared.Answer.{Answer}
+use Rattle.protocol.specs.Frames.{commandOf}
 use Rattle.protocol.specs.declared.Command.{Command}
 use Rattle.shape.specs.Nested.{joined}
-use Rattle.shape.specs.Trees.{Tree}
-use Rattle.sessions.specs.Batch.{draftOf, keptByte, keptIn, lineOfBytes, completed, PutsAnswer, Completes}
-use Rattle.sessions.specs.Session.{badAnswer, answersToLines, stateAfterLines, lineOfAnswer}
-use Rattle.sessions.proofs.Digits.{line-of-bytes}
-use Rattle.sessions.proofs.Framed.{commandFrom, commandsOf}
+use Rattle.batches.specs.Answers.{badAnswer, lineOfAnswer, lineOfBytes}
+use Rattle.batches.specs.Batch.{draftOf, keptByte, keptIn, completed, PutsAnswer, Completes}
+use Rattle.batches.proofs.Framed.{commandsOf}
 
 -- a line in front of others
-take-line : (a b c d n : ℕ) (rest : List ℕ) → take lineSize (lineOf a b c d n ++ rest) ≡ lineOf a b c d n
+pub take-line : (a b c d n : ℕ) (rest : List ℕ) → take lineSize (lineOf a b c d n ++ rest) ≡ lineOf a b c d n
 take-line a b c d n rest = take-at (lineOf a b c d n) rest lineSize (length-of-line a b c d n)
 
-drop-line : (a b c d n : ℕ) (rest : List ℕ) → drop lineSize (lineOf a b c d n ++ rest) ≡ rest
+pub drop-line : (a b c d n : ℕ) (rest : List ℕ) → drop lineSize (lineOf a b c d n ++ rest) ≡ rest
 drop-line a b c d n rest = drop-at (lineOf a b c d n) rest lineSize (length-of-line a b c d n)
 
 -- zeros keep a place, a bad line's answer doesn't
-zeros-keep : (rest : List ℕ) → eqb (getD (lineOf 0 0 0 0 0 ++ rest) 0 0) keptByte ≡ true
+pub zeros-keep : (rest : List ℕ) → eqb (getD (lineOf 0 0 0 0 0 ++ rest) 0 0) keptByte ≡ true
 unfolding lineOf digitsOfFrame digitsOf digitOf
 zeros-keep rest = refl
 
-bad-keeps-none : (rest : List ℕ) → eqb (getD (lineOfAnswer badAnswer ++ rest) 0 0) keptByte ≡ false
+pub bad-keeps-none : (rest : List ℕ) → eqb (getD (lineOfAnswer badAnswer ++ rest) 0 0) keptByte ≡ false
 unfolding lineOf digitsOfFrame digitsOf digitOf
 bad-keeps-none rest = refl
 
@@ -59,50 +52,10 @@ kept-in-drafts (Bad ∷ rs) rest =
     rw (append-assoc (lineOfAnswer badAnswer) (joined draftOf rs) rest, bad-keeps-none (joined draftOf rs ++ rest), drop-line 255 0 0 0 0 (joined draftOf rs ++ rest))
     (omega (arith, kept-in-drafts rs rest))
 
--- bad lines change nothing
-pub state-after-lines : (rs : List Reading) (s : State Tree) → stateAfterLines s rs ≡ stateAfter trees s (commandsOf rs)
-unfolding stateAfterLines stateAfter
-state-after-lines [] s = refl
-state-after-lines (Frame code name symbol fourth number ∷ rs) s = state-after-lines rs (respond trees s (commandFrom code name symbol fourth number) .state)
-state-after-lines (Bad ∷ rs) s = state-after-lines rs s
-
 length-of-bytes : (bytes : List ℕ) → length (lineOfBytes bytes) ≡ lineSize
 unfolding lineOfBytes
 length-of-bytes bytes =
     length-of-line (commandOf bytes .code) (commandOf bytes .name) (commandOf bytes .symbol) (commandOf bytes .fourth) (commandOf bytes .number)
-
-eight-bytes : (a : Answer) → length (bytesOfAnswer a) ≡ frameSize
-unfolding bytesOfAnswer
-eight-bytes a = refl
-
--- the answers to the frames at the kept places
-pub completed-drafts : (rs : List Reading) (s : State Tree) (rest more : List ℕ)
-    → completed (length rs) (joined draftOf rs ++ rest) (joined bytesOfAnswer (answersTo trees s (commandsOf rs)) ++ more)
-    ≡ joined lineOfAnswer (answersToLines s rs)
-unfolding completed answersTo answersToLines
-completed-drafts [] s rest more = refl
-completed-drafts (Frame code name symbol fourth number ∷ rs) s rest more =
-    let c = commandFrom code name symbol fourth number in
-    let a : Answer = respond trees s c .answer in
-    let next : State Tree = respond trees s c .state in
-    let later : List ℕ = joined bytesOfAnswer (answersTo trees next (commandsOf rs)) in
-    rw (
-      append-assoc (lineOf 0 0 0 0 0) (joined draftOf rs) rest,
-      zeros-keep (joined draftOf rs ++ rest),
-      drop-line 0 0 0 0 0 (joined draftOf rs ++ rest),
-      append-assoc (bytesOfAnswer a) later more,
-      take-at (bytesOfAnswer a) (later ++ more) frameSize (eight-bytes a),
-      drop-at (bytesOfAnswer a) (later ++ more) frameSize (eight-bytes a),
-    )
-    (ap₂ (λ l ls. l ++ ls) (line-of-bytes a) (completed-drafts rs next rest more))
-completed-drafts (Bad ∷ rs) s rest more =
-    rw (
-      append-assoc (lineOfAnswer badAnswer) (joined draftOf rs) rest,
-      bad-keeps-none (joined draftOf rs ++ rest),
-      drop-line 255 0 0 0 0 (joined draftOf rs ++ rest),
-      take-line 255 0 0 0 0 (joined draftOf rs ++ rest),
-    )
-    (ap (λ l. lineOfAnswer badAnswer ++ l) (completed-drafts rs s rest more))
 
 -- an answer was read and put at a place that was kept
 pub answer-put : (at used : ℕ) (out out' answers : List ℕ) (answer : Command) → getD out at 0 ≡ keptByte → answer ≡ commandOf (take frameSize (drop used answers))

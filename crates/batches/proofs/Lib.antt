@@ -1,0 +1,5 @@
+pub mod Cut
+pub mod Digits
+pub mod Framed
+pub mod Completed
+pub mod Reading
