@@ -6,7 +6,7 @@
 #include <string.h>
 #include <time.h>
 
-enum { SHARES = 508, BYTES = 65536, MARKS = 12192, LEAF = 96, ROUNDS = 2000, TRIES = 15 };
+enum { SHARES = 508, BYTES = 65536, MARKS = 12192, LEAF = 96, ROUNDS = 50, TRIES = 500 };
 
 bool forfochry_check(const uint8_t *pool, size_t bytes, uint8_t *map);
 
@@ -90,22 +90,26 @@ static double now(void) {
 static uint8_t pool[BYTES], map[SHARES];
 static volatile unsigned sink;
 
-#define BEST(result, code)                                   \
-    double result = 1e18;                                    \
-    for (int try = 0; try < TRIES; try++) {                  \
-        double start = now();                                \
-        for (int r = 0; r < ROUNDS; r++) { sink = (code); }  \
-        double took = (now() - start) / ROUNDS;              \
-        if (took < result) result = took;                    \
+// One try of each contestant: nanoseconds a round, kept where they are the least yet.
+#define TRY(result, code)                                \
+    {                                                    \
+        double start = now();                            \
+        for (int r = 0; r < ROUNDS; r++) sink = (code);  \
+        double took = (now() - start) / ROUNDS;          \
+        if (took < result) result = took;                \
     }
 
 int main(void) {
     for (int i = 0; i < 4; i++) {
         unsigned names = i % 2 ? 16 : 1, held = build_pool(pool, names, i < 2 ? usual_mark : even_mark);
         if (!forfochry_check(pool, BYTES, map) || !plain_check(pool, BYTES, map)) { puts("a sound pool is refused"); return 1; }
-        BEST(proved, forfochry_check(pool, BYTES, map));
-        BEST(plain, plain_check(pool, BYTES, map));
-        BEST(sum, plain_sum(pool, held));
+        double proved = 1e18, plain = 1e18, sum = 1e18;
+        // in turn, so that a slow or a fast spell of the machine meets all three, and in short tries, so that some aren't broken off
+        for (int try = 0; try < TRIES; try++) {
+            TRY(proved, forfochry_check(pool, BYTES, map));
+            TRY(plain, plain_check(pool, BYTES, map));
+            TRY(sum, plain_sum(pool, held));
+        }
         printf("%-6s marks, %2u names, %3u blocks: check %6.0f ns, plain C %6.0f ns (%.2f), sum of bytes %6.0f ns (%.2f)\n",
                i < 2 ? "usual" : "even", names, held, proved, plain, proved / plain, sum, proved / sum);
     }

@@ -14,14 +14,7 @@ use Rattle.hex.specs.declared.read.Reading.{Reading}
 use Rattle.hex.specs.declared.read.Reading.the-variants.{Frame, Bad}
 use Rattle.hex.proofs.Frames.{all-digits-part}
 use Rattle.hex.proofs.Numbers.{second-of-both, number-fits}
-<<<<<<< HEAD:crates/sessions/proofs/Framed.antt
-use Rattle.index.specs.Runs.{eights, commandsIn}
-use Rattle.index.proofs.Cutting.{commands-append}
-use Rattle.pool.specs.Bytes.{from}
-use Rattle.protocol.specs.Frames.{commandOf, eightBytes, bytesOfCommand, Fitting}
-=======
 use Rattle.protocol.specs.Frames.{eightBytes, Fitting}
->>>>>>> 53fbbbb3e68b9c9251d50fefa373e57334ab1122:crates/batches/proofs/Framed.antt
 use Rattle.protocol.specs.declared.Command.{Command}
 use Rattle.shape.specs.Nested.{joined}
 use Rattle.batches.specs.Batch.{bytesOf}
@@ -70,26 +63,6 @@ fits-line line = go (isFrame line) (λ is. second-of-both (eqb (length line) lin
     go true digits = fits-spelled line (digits refl)
     go false digits = tt
 
-<<<<<<< HEAD:crates/sessions/proofs/Framed.antt
--- eight bytes are one command
-one-command : (bytes : List ℕ) → length bytes ≡ frameSize → commandsIn bytes ≡ commandOf bytes ∷ []
-unfolding commandsIn eights from
-one-command bytes long = rw long (ap (λ l. commandOf l ∷ []) (take-all frameSize bytes (omega arith)))
-
--- the bytes of lines are the commands of their frames
-pub commands-in-batch : (rs : List Reading) → AllFit rs → commandsIn (joined bytesOf rs) ≡ commandsOf rs
-unfolding commandsIn eights from bytesOfCommand
-commands-in-batch [] fits = refl
-commands-in-batch (Frame code name symbol fourth number ∷ rs) fits =
-    let bytes : List ℕ = eightBytes code name symbol fourth number in
-    commands-append bytes (joined bytesOf rs) refl
-    ∙ ap₂ (λ xs ys. xs ++ ys)
-    (one-command bytes refl ∙ ap (λ c. c ∷ []) (command-of-bytes (commandFrom code name symbol fourth number) (fits .0)))
-    (commands-in-batch rs (fits .1))
-commands-in-batch (Bad ∷ rs) fits = commands-in-batch rs (fits .1)
-
-=======
->>>>>>> 53fbbbb3e68b9c9251d50fefa373e57334ab1122:crates/batches/proofs/Framed.antt
 pub fits-lines : (lines : List (List ℕ)) → AllFit (map frameOf lines)
 fits-lines [] = tt
 fits-lines (line ∷ lines) = (fits-line line, fits-lines lines)

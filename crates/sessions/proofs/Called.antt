@@ -16,7 +16,7 @@ use Rattle.geometry.specs.Limits.{frameSize}
 use Rattle.hex.specs.Lines.{lineOf}
 use Rattle.hex.specs.declared.read.Reading.{Reading}
 use Rattle.hex.specs.declared.read.Reading.the-variants.{Frame, Bad}
-use Rattle.index.specs.Runs.{commandsIn}
+use Rattle.index.specs.Runs.{eights, commandsIn}
 use Rattle.index.proofs.Cutting.{commands-append}
 use Rattle.machine.specs.Machine.{trees}
 use Rattle.pool.specs.Bytes.{from}
@@ -31,12 +31,12 @@ use Rattle.sessions.specs.Session.{answersToLines, stateAfterLines}
 
 -- eight bytes are one command
 one-command : (bytes : List ℕ) → length bytes ≡ frameSize → commandsIn bytes ≡ commandOf bytes ∷ []
-unfolding commandsIn from
+unfolding commandsIn eights from
 one-command bytes long = rw long (ap (λ l. commandOf l ∷ []) (take-all frameSize bytes (omega arith)))
 
 -- the bytes of lines are the commands of their frames
 pub commands-in-batch : (rs : List Reading) → AllFit rs → commandsIn (joined bytesOf rs) ≡ commandsOf rs
-unfolding commandsIn from bytesOfCommand
+unfolding commandsIn eights from bytesOfCommand
 commands-in-batch [] fits = refl
 commands-in-batch (Frame code name symbol fourth number ∷ rs) fits =
     let bytes : List ℕ = eightBytes code name symbol fourth number in
