@@ -35,6 +35,9 @@ damaged pools                        | check_skips_counts              | only it
 rows=$(sed -E '/^$/d; s/ +\| +/|/g' <<<"$table")
 
 planted=$(grep -rhoE 'fault = "[a-z0-9_]+"' "$here/../twin" --include='*.rs' | cut -d'"' -f2 | sort -u)
+for fault in "$@" $(cut -d'|' -f2 <<<"$rows"); do
+    grep -qxF -e "$fault" <<<"$planted" || { echo "planted.sh: the twin has no fault called '$fault'; it has:" $planted; exit 1; }
+done
 
 # Compiles the host's test or the first program without a library: compile CRATE SOURCE
 compile() {
@@ -92,7 +95,7 @@ cut -d'|' -f1 <<<"$rows" | sort -u | diff <(sort "$work/trials") - >"$work/diffe
 host=$(host_says)
 independent=$(independent_says)
 [ -z "$host$independent" ] || { echo "the twin without a fault doesn't pass: $host $independent"; exit 1; }
-printf '%-31s | trials | independent | %s\n' fault 'first message' '(none)' "$(tail -1 "$work/host.out")"
+printf '%-31s | %6s | %-11s | %s\n' fault trials independent 'first message' '(none)' 0 '' "$(tail -1 "$work/host.out")"
 wrong=0
 for fault in ${*:-$planted}; do
     build "$fault"
