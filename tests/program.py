@@ -57,6 +57,7 @@ class Talk:
         """What is written while the rest is sent and after that, and the exit status."""
         alarm = threading.Timer(6 * PATIENCE, self.program.kill)
         hand = threading.Thread(target=self.hand_over, args=[still_to_send])
+        alarm.daemon = True
         alarm.start()
         hand.start()
         heard = b"".join(iter(lambda: os.read(self.source, 65536), b""))

@@ -18,20 +18,26 @@ pools of other lengths               | format_takes_longer_pools       | only it
 empty buffers anywhere               | refuses_null                    | only itself
 lengths of commands and answer rooms | clears_the_whole_room           | only itself
 the order of refusals                | commands_looked_at_first        | only itself
-calls without frames                 | no_check_without_frames         | only itself
+calls without frames                 | empty_call_leaves_a_trace       | only itself
+calls without frames                 | no_check_without_frames         | itself
 marks of lines                       | line_of_73_columns              | only itself
-no block free                        | full_when_no_block_is_free      | model
+no block free                        | full_when_ten_names_hold_all    | only model
 random sessions                      | split_leaves_a_count            | model
 the largest name                     | check_refuses_height_6          | only itself
+one call or several                  | remembers_an_empty_call         | only itself
 one call or several                  | pretends_after_the_first_frame  | itself
 saved pools                          | pool_bears_its_address          | only itself
 other names untouched                | scribbles_on_another_name       | only itself
+one name'\''s answers in two runs       | crowded_depth                   | only itself
 one name'\''s answers in two runs       | depth_counts_open_names         | itself
 damaged pools                        | check_skips_counts              | only itself
 '
 rows=$(sed -E '/^$/d; s/ +\| +/|/g' <<<"$table")
 
 planted=$(grep -rhoE 'fault = "[a-z0-9_]+"' "$here/../twin" --include='*.rs' | cut -d'"' -f2 | sort -u)
+for fault in "$@" $(cut -d'|' -f2 <<<"$rows"); do
+    grep -qxF -e "$fault" <<<"$planted" || { echo "planted.sh: the twin has no fault called '$fault'; it has:" $planted; exit 1; }
+done
 
 # Compiles the host's test or the first program without a library: compile CRATE SOURCE
 compile() {
@@ -76,7 +82,7 @@ holds() {
     case $3 in *only*) [ "$(wc -l <"$work/found")" -eq 1 ] || { echo "     $1 isn't the only one to find it"; return 1; } ;; esac
     case $3 in
         *itself*) says=$(host_says --without-model "$1"); [ -n "$says" ] || { echo "     $1 doesn't find it without the model"; return 1; } ;;
-        *) says="by the model" ;;
+        *) says="$1" ;;
     esac
     echo "     $3: $(cut -c1-140 <<<"$says")"
 }
@@ -89,7 +95,7 @@ cut -d'|' -f1 <<<"$rows" | sort -u | diff <(sort "$work/trials") - >"$work/diffe
 host=$(host_says)
 independent=$(independent_says)
 [ -z "$host$independent" ] || { echo "the twin without a fault doesn't pass: $host $independent"; exit 1; }
-printf '%-31s | trials | independent | %s\n' fault 'first message' '(none)' "$(tail -1 "$work/host.out")"
+printf '%-31s | %6s | %-11s | %s\n' fault trials independent 'first message' '(none)' 0 '' "$(tail -1 "$work/host.out")"
 wrong=0
 for fault in ${*:-$planted}; do
     build "$fault"

@@ -4,6 +4,7 @@ use crate::check;
 use crate::layout::{self, NAMES, Pool, Record, SYMBOLS};
 use crate::map::Map;
 use crate::tree::{self, Edit};
+use core::sync::atomic::{AtomicBool, Ordering};
 
 const FRAME: usize = 8;
 const MOST_COMMANDS: usize = 8_192;
@@ -82,47 +83,44 @@ struct Index<'a> {
 
 /// Runs a call: the number of frames run, or the number of its refusal.
 pub fn run(pool: &mut [u8], commands: &[u8], answers: &mut [u8]) -> Result<usize, u32> {
-    let bad_commands = commands.len() % FRAME != 0 || commands.len() > MOST_COMMANDS;
-    if cfg!(fault = "commands_looked_at_first") && bad_commands {
-        return Err(102);
+    if let Some(status) = refused_by_lengths(pool, commands, answers) {
+        return Err(status);
     }
-    if !layout::allowed_length(pool.len()) {
-        return Err(101);
-    }
-    if bad_commands {
-        return Err(102);
-    }
-    if answers.len() < commands.len() {
-        if cfg!(fault = "refusal_writes_answers") {
-            answers.fill(0);
-        }
-        return Err(103);
-    }
-    if cfg!(fault = "refuses_all") {
-        return Err(104);
-    }
-    if cfg!(fault = "no_check_without_frames") && commands.is_empty() {
+    let (frames, _) = commands.as_chunks::<FRAME>();
+    if cfg!(fault = "no_check_without_frames") && frames.is_empty() {
         return Ok(0);
     }
     let pool = Pool::of(pool);
     let map = check::check(&pool).ok_or(104u32)?;
-    let mut index = Index { pool, map };
-    let (frames, _) = commands.as_chunks::<FRAME>();
-    if cfg!(fault = "does_nothing") {
-        return Ok(frames.len());
-    }
-    let (room, past) = answers.as_chunks_mut::<FRAME>();
-    for (number, (frame, answer)) in frames.iter().zip(room.iter_mut()).enumerate() {
-        *answer = if pretends(number) { pretended(frame) } else { index.answer(frame) };
-    }
-    if cfg!(fault = "writes_past_the_answers") && room.len() == frames.len() {
-        past.fill(0);
-    }
-    if cfg!(fault = "clears_the_whole_room") {
-        room[frames.len()..].fill([0; FRAME]);
+    if !cfg!(fault = "does_nothing") {
+        Index { pool, map }.answer_all(frames, answers);
     }
     Ok(frames.len())
 }
+
+/// Statuses 101 to 103, which look at the lengths alone.
+fn refused_by_lengths(pool: &[u8], commands: &[u8], answers: &mut [u8]) -> Option<u32> {
+    let bad_commands = commands.len() % FRAME != 0 || commands.len() > MOST_COMMANDS;
+    if cfg!(fault = "commands_looked_at_first") && bad_commands {
+        Some(102)
+    } else if !layout::allowed_length(pool.len()) {
+        Some(101)
+    } else if bad_commands {
+        Some(102)
+    } else if answers.len() < commands.len() {
+        if cfg!(fault = "refusal_writes_answers") {
+            answers.fill(0);
+        }
+        Some(103)
+    } else if cfg!(fault = "refuses_all") {
+        Some(104)
+    } else {
+        None
+    }
+}
+
+/// What a fault keeps from one call to the next.
+static LAST_WAS_EMPTY: AtomicBool = AtomicBool::new(false);
 
 /// The impostors that don't look, or look at the first frame only.
 fn pretends(number: usize) -> bool {
@@ -134,6 +132,33 @@ fn pretended(frame: &[u8; FRAME]) -> [u8; FRAME] {
 }
 
 impl<'a> Index<'a> {
+    fn answer_all(&mut self, frames: &[[u8; FRAME]], answers: &mut [u8]) {
+        let (room, past) = answers.as_chunks_mut::<FRAME>();
+        let empty = frames.is_empty();
+        let forgets = cfg!(fault = "remembers_an_empty_call") && LAST_WAS_EMPTY.swap(empty, Ordering::Relaxed);
+        for (number, (frame, answer)) in frames.iter().zip(room.iter_mut()).enumerate() {
+            let pretends = pretends(number) || (forgets && frame[0] == INSERT);
+            *answer = if pretends { pretended(frame) } else { self.answer(frame) };
+        }
+        if cfg!(fault = "empty_call_leaves_a_trace") && empty {
+            self.mark_unused_byte(0);
+        }
+        if cfg!(fault = "writes_past_the_answers") && room.len() == frames.len() {
+            past.fill(0);
+        }
+        if cfg!(fault = "clears_the_whole_room") {
+            room[frames.len()..].fill([0; FRAME]);
+        }
+    }
+
+    /// Changes a byte of a block where no entry stands.
+    fn mark_unused_byte(&mut self, number: usize) {
+        let block = &mut self.pool.blocks[number];
+        if layout::entries(block) < layout::MOST_LEAF {
+            block[layout::MOST_LEAF - 1] ^= 1;
+        }
+    }
+
     fn answer(&mut self, frame: &[u8; FRAME]) -> [u8; FRAME] {
         let command = Command::of(frame);
         match self.refusal(&command) {
@@ -202,8 +227,9 @@ impl<'a> Index<'a> {
     }
 
     fn is_full(&self, record: &Record) -> bool {
-        let none_free = cfg!(fault = "full_when_no_block_is_free") && self.map.lowest_free().is_none();
-        record.length >= record.room() || none_free
+        let ten = cfg!(fault = "full_when_ten_names_hold_all") && self.open_names() == 10;
+        let by_blocks = cfg!(fault = "full_when_no_block_is_free") || ten;
+        record.length >= record.room() || (by_blocks && self.map.lowest_free().is_none())
     }
 
     fn unpromised(&self) -> usize {
@@ -232,6 +258,8 @@ impl<'a> Index<'a> {
                 let (symbol, depth) = tree::access(&self.pool, &record, number);
                 self.leave_a_trace(&record);
                 let depth = if cfg!(fault = "depth_counts_open_names") { depth + self.open_names() } else { depth };
+                let crowded = cfg!(fault = "crowded_depth") && record.length > 500 && self.open_names() > 10;
+                let depth = if crowded { depth - 1 } else { depth };
                 Answer { symbol, depth: depth as u8, value: 0 }
             }
             RANK => Answer::value(tree::rank(&self.pool, &record, symbol, number)),
@@ -298,10 +326,7 @@ impl<'a> Index<'a> {
     fn scribble(&mut self, name: usize) {
         if cfg!(fault = "scribbles_on_another_name") {
             if let Some(number) = self.map.of_another(name) {
-                let block = &mut self.pool.blocks[number];
-                if layout::entries(block) < layout::MOST_LEAF && layout::entries(block) > layout::MOST_BRANCH {
-                    block[layout::MOST_LEAF - 1] ^= 1;
-                }
+                self.mark_unused_byte(number);
             }
         }
     }
