@@ -93,7 +93,7 @@ fn take_line(
 }
 
 // The first `count` bytes, or all where there are fewer.
-pub fn first_bytes(bytes: &[u8], count: usize) -> &[u8]
+fn first_bytes(bytes: &[u8], count: usize) -> &[u8]
     ensures { λ r. ⌜ now r ≡ take count (now (bytes .entry)) ⌝ }
 {
     if bytes.len() <= count {
@@ -104,13 +104,7 @@ pub fn first_bytes(bytes: &[u8], count: usize) -> &[u8]
 
 // Puts a line behind so many others, of which so many are frames: a bad line's answer, or a frame among the commands and a line of zeros
 // that keeps the place of its answer. Answers how many frames there are then.
-pub fn put_line(
-    line: &[u8],
-    out: &mut [u8],
-    lines: usize,
-    commands: &mut [u8],
-    frames: usize,
-) -> usize
+fn put_line(line: &[u8], out: &mut [u8], lines: usize, commands: &mut [u8], frames: usize) -> usize
     requires { ⌜ (lineSize * (lines + 1) ≤ length (now out)) × (frameSize * (frames + 1) ≤ length (now commands)) ⌝ }
     ensures { λ r. ⌜ PutsLine (now (line .entry)) lines frames (now (out .entry)) (now (out .exit)) (now (commands .entry)) (now (commands .exit)) r ⌝ }
 {

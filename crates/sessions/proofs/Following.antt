@@ -11,10 +11,9 @@ use native.Mathlib.Omega.{arith}
 use lib.ListN.{length, take, drop, length-map, take-append-drop}
 use lib.Seq.{length-take-le}
 use Rattle.batches.specs.Answers.{lineOfAnswer}
-use Rattle.batches.specs.Batch.{draftOf, bytesOf, keptIn, completed, PutsLine, BatchRead, Completes}
+use Rattle.batches.specs.Batch.{draftOf, bytesOf, keptIn, completed, BatchRead, Completes}
 use Rattle.batches.specs.declared.Batch.{Batch}
 use Rattle.batches.proofs.Completed.{kept-in-drafts}
-use Rattle.batches.proofs.Cut.{frame-of-held}
 use Rattle.batches.proofs.Framed.{commandsOf, fits-lines, length-of-batch}
 use Rattle.geometry.specs.Limits.{frameSize, longestCommands, directorySize, blockSize}
 use Rattle.hex.specs.Lines.{frameOf, lineSize}
@@ -24,7 +23,7 @@ use Rattle.index.specs.Runs.{commandsIn}
 use Rattle.index.specs.declared.Outcome.{Outcome}
 use Rattle.index.proofs.Following.{runs-sound, runs-long}
 use Rattle.index.proofs.Outcomes.{length-cases, all-passed, one-status, room-by-machine, meaning-by-machine}
-use Rattle.lines.specs.Lines.{Stands, Holds, Finishes, ended, left, linesOf}
+use Rattle.lines.specs.Lines.{Stands, lineFeed, trims, trim, ended, left, linesOf}
 use Rattle.lines.specs.declared.Gathered.{Gathered}
 use Rattle.lines.proofs.Cut.{ended-append, left-append}
 use Rattle.lines.proofs.Held.{no-last-line, last-line}
@@ -42,6 +41,7 @@ use Rattle.shape.proofs.Folds.{joined-append}
 use Rattle.sessions.specs.Call.{Asks, Answers}
 use Rattle.sessions.specs.Session.{responseTo, answersToLines, stateAfterLines, atStart, writtenFor, sessionOf}
 use Rattle.sessions.specs.Stream.{readFrom, Follows, Over, Starts, TakesIn, Ends}
+use Rattle.sessions.specs.declared.Taken.{Taken}
 use Rattle.sessions.proofs.Called.{commands-in-batch, state-after-lines, completed-drafts}
 
 -- what is at the front of a buffer, in front of its rest
@@ -139,12 +139,6 @@ written-with : (input written front : List ℕ) (before : Gathered) (keep p : Li
 written-with input written front before keep p more f is =
     ap₂ (λ w l. w ++ l) (f .lines) (is ∙ ap (λ s. joined lineOfAnswer (answersToLines s more)) (f .meant)) ∙ sym (written-append (readFrom input) more)
 
--- and the state after them
-state-with : (input written : List ℕ) (before : Gathered) (keep p q : List ℕ) (more : List Reading) → Follows input written before keep p
-    → meaning q ≡ stateAfterLines (meaning p) more → meaning q ≡ stateAfterLines atStart (readFrom input ++ more)
-state-with input written before keep p q more f is =
-    is ∙ ap (λ s. stateAfterLines s more) (f .meant) ∙ sym (state-append (readFrom input) more atStart)
-
 -- a chunk's lines were read and answered
 module _ (chunk : List ℕ) (before : Gathered) (keep keep' p q out out₁ out₂ zeros commands : List ℕ) (batch : Batch) (filled : ℕ)
     (read : BatchRead chunk before keep keep' out out₁ zeros commands batch) (room : frameSize ≤ length zeros) (few : length commands ≤ longestCommands) where
@@ -185,83 +179,64 @@ module _ (chunk : List ℕ) (before : Gathered) (keep keep' p q out out₁ out�
             line = rw (left-append [] input taken) (r .rest (left [] input) (f .line));
             room = omega (arith, r .same, f .room);
             sound = done .sound (f .sound);
-            meant = state-with input written before keep p q more f (done .state (r .lines) (r .bytes) (f .sound)) ∙ ap (stateAfterLines atStart) (sym all-read);
+            meant =
+                done .state (r .lines) (r .bytes) (f .sound)
+                ∙ ap (λ s. stateAfterLines s more) (f .meant)
+                ∙ sym (state-append (readFrom input) more atStart)
+                ∙ ap (stateAfterLines atStart) (sym all-read);
             lines = written-with input written (take filled out₂) before keep p more f front ∙ ap writtenFor (sym all-read);
           }
 
--- the input is over
-module _ (before : Gathered) (keep keep' p out : List ℕ) (last : Gathered) (finishes : Finishes before keep keep' last) where
-  -- it ended with a line feed, or is empty
-  pub ends-whole : last .length ≡ 0 → Ends before keep keep' p p out out 0
-  unfolding sessionOf linesOf
-  ends-whole none =
-      record {
-        room = omega arith;
-        same = finishes .same;
-        samePool = refl;
-        long = refl;
-        refused = λ unsound. refl;
-        over = over;
-      }
-    where
-      over : (input written : List ℕ) → Follows input written before keep p → Over input (written ++ take 0 out) p
-      over input written f =
+-- the input is over, and ended with a line feed or is empty
+pub ends-whole : (before : Gathered) (keep p out : List ℕ) → before .length ≡ 0 → Ends before keep keep p p out out 0
+unfolding sessionOf linesOf trim trims
+ends-whole before keep p out none =
+    record {
+      room = omega arith;
+      same = refl;
+      samePool = refl;
+      long = refl;
+      refused = λ unsound. refl;
+      over =
+          λ room input written f.
           let all-read : map frameOf (linesOf false input) ≡ readFrom input =
-          ap (λ l. map frameOf (ended false [] input ++ l))
-          (no-last-line (left [] input) last keep' (finishes .line false (left [] input) (f .line)) none)
+          ap (λ l. map frameOf (ended false [] input ++ l)) (no-last-line (left [] input) before keep (f .line .line) none)
           ∙ ap (map frameOf) (append-nil (ended false [] input))
           in
           record {
             sound = f .sound;
             meant = f .meant ∙ ap (stateAfterLines atStart) (sym all-read);
             whole = ap writtenFor all-read ∙ sym (f .lines) ∙ sym (append-nil written);
-          }
+          };
+    }
 
-  -- a last line has no line feed
-  module _ (front out₁ out₂ zeros commands q : List ℕ) (frames result : ℕ) (some : last .length ≡ 0 → ⊥) (is-front : front ≡ take (last .kept) keep')
-      (puts : PutsLine front 0 0 out out₁ zeros commands frames) (room : lineSize ≤ length out) (few : length commands ≤ longestCommands) where
-    drafts : take (lineSize * 1) out₁ ≡ joined draftOf (map frameOf (front ∷ []))
-    drafts = puts .draft ∙ sym (append-nil (draftOf (frameOf front)))
-
-    bytes : take (frameSize * frames) commands ≡ joined bytesOf (map frameOf (front ∷ []))
-    bytes = puts .command ∙ sym (append-nil (bytesOf (frameOf front)))
-
-    pub asks-last : Asks (take (frameSize * frames) commands) out₁ 1
-    asks-last = asks-lines (front ∷ []) commands out₁ 1 frames refl drafts bytes (omega (arith, puts .sameOut)) (puts .room) few
-
-    pub ends-open : result ≡ lineSize * 1 → Answers p q (take (frameSize * frames) commands) out₁ out₂ 1 → Ends before keep keep' p q out out₂ result
-    unfolding sessionOf linesOf
-    ends-open is done =
-        record {
-          room = omega (arith, puts .sameOut, done .long);
-          same = finishes .same;
-          samePool = done .samePool;
-          long = done .long ∙ puts .sameOut;
-          refused = done .refused;
-          over = over;
-        }
-      where
-        over : (input written : List ℕ) → Follows input written before keep p → Over input (written ++ take result out₂) q
-        over input written f =
-            let line : List ℕ = left [] input in
-            let more : List Reading = map frameOf (front ∷ []) in
-            let held : Holds line last keep' = finishes .line false line (f .line) in
-            let reads-so : frameOf front ≡ frameOf line =
-            ap frameOf is-front ∙ frame-of-held line last keep' held (omega (arith, finishes .same, f .room))
-            in
-            let all-read : map frameOf (linesOf false input) ≡ readFrom input ++ more =
-            ap (λ l. map frameOf (ended false [] input ++ l)) (last-line line last keep' held (omega (arith, some)))
-            ∙ map-append frameOf (ended false [] input) (line ∷ [])
-            ∙ ap (λ reading. readFrom input ++ (reading ∷ [])) (sym reads-so)
-            in
-            let answered : take result out₂ ≡ joined lineOfAnswer (answersToLines (meaning p) more) =
-            ap (λ n. take n out₂) is ∙ done .answers (front ∷ []) bytes refl drafts (f .sound)
-            in
-            record {
-              sound = done .sound (f .sound);
-              meant = state-with input written before keep p q more f (done .state (front ∷ []) bytes (f .sound)) ∙ ap (stateAfterLines atStart) (sym all-read);
-              whole = ap writtenFor all-read ∙ sym (written-with input written (take result out₂) before keep p more f answered);
-            }
+-- the input is over, and a line feed was taken in for the one that its last line lacks
+pub ends-open : (before : Gathered) (keep keep' p q out out' : List ℕ) (taken : Taken) → (before .length ≡ 0 → ⊥)
+    → TakesIn (lineFeed ∷ []) before keep keep' p q out out' taken → Ends before keep keep' p q out out' (taken .filled)
+unfolding sessionOf linesOf ended trim trims
+ends-open before keep keep' p q out out' taken some takes =
+    record {
+      room = takes .room;
+      same = takes .same;
+      samePool = takes .samePool;
+      long = takes .long;
+      refused = takes .refused;
+      over =
+          λ room input written f.
+          let one : taken .taken ≡ 1 = omega (arith, takes .within, takes .onward room (omega arith)) in
+          let then : Follows (input ++ (lineFeed ∷ [])) (written ++ take (taken .filled) out') (taken .line) keep' q =
+          rw one at (takes .follows input written f)
+          in
+          let all-read : map frameOf (linesOf false input) ≡ readFrom (input ++ (lineFeed ∷ [])) =
+          ap (λ l. map frameOf (ended false [] input ++ l)) (last-line (left [] input) before keep (f .line .line) (omega (arith, some)))
+          ∙ ap (map frameOf) (sym (ended-append false [] input (lineFeed ∷ [])))
+          in
+          record {
+            sound = then .sound;
+            meant = then .meant ∙ ap (stateAfterLines atStart) (sym all-read);
+            whole = ap writtenFor all-read ∙ sym (then .lines);
+          };
+    }
 
 -- the pool is formatted or as it was, and nothing has been read
 pub starts : (p q : List ℕ) (status : ℕ) (line : Gathered) → Formats p status q → ((returns : Bool) (keep : List ℕ) → Stands returns [] line keep) → Starts p q line

@@ -57,11 +57,12 @@ pub record TakesIn (chunk : List ℕ) (before : Gathered) (keep keep' p q out ou
   pub follows : (input written : List ℕ) → Follows input written before keep p
       → Follows (input ++ take (result .taken) chunk) (written ++ take (result .filled) out') (result .line) keep' q
 
--- the input is over, and with the line at the front of out, if there is one, the session is whole
+-- the input is over, and with the line at the front of out, if there is one, the session is whole where out has room for it
 pub record Ends (before : Gathered) (keep keep' p q out out' : List ℕ) (result : ℕ) : Type 0 where
   pub room : result ≤ length out'
   pub same : length keep' ≡ length keep
   pub samePool : length q ≡ length p
   pub long : length out' ≡ length out
   pub refused : (Sound p → ⊥) → q ≡ p
-  pub over : (input written : List ℕ) → Follows input written before keep p → Over input (written ++ take result out') q
+  pub over : lineSize ≤ length out → (input written : List ℕ) → Follows input written before keep p
+      → Over input (written ++ take result out') q

@@ -1,20 +1,18 @@
 // A session with the index: lines of digits that come in chunks, each answered by a line. specs/Session.antt says what is written for a
 // whole input; the functions here follow it chunk by chunk. All lines of a chunk go through one call of the index, as far as there is room.
 ghost use mathlib.Core.Path.{_≡_};
-ghost use Prim.Native.Nat.{_*_, _≤_};
-ghost use lib.ListN.{length};
+ghost use Prim.Native.Nat.{_*_};
 ghost use Rattle.hex.specs.Lines.{lineSize};
 ghost use Rattle.sessions.specs.Call.{Asks, Answers};
 ghost use Rattle.sessions.specs.Stream.{Starts, TakesIn, Ends};
 use batches::complete;
-use batches::first_bytes;
-use batches::put_line;
 use batches::read_lines;
 use geometry::Record;
 use hex::LINE_SIZE;
 use index::format;
 use index::run;
 use lines::Gathered;
+use lines::LINE_FEED;
 
 // What came of a chunk's bytes.
 pub struct Taken {
@@ -67,18 +65,12 @@ fn answer(pool: &mut [u8], commands: &[u8], out: &mut [u8], lines: usize) -> usi
     LINE_SIZE * lines
 }
 
-// The input is over: answers its last line, if that has no line feed but a byte.
+// The input is over: answers its last line, if that has no line feed but a byte, as if the line feed had come.
 pub fn finish(before: Gathered, keep: &mut [u8], pool: &mut [u8], out: &mut [u8]) -> usize
-    requires { ⌜ lineSize ≤ length (now out) ⌝ }
     ensures { λ r. ⌜ Ends before (now (keep .entry)) (now (keep .exit)) (now (pool .entry)) (now (pool .exit)) (now (out .entry)) (now (out .exit)) r ⌝ }
 {
-    let line = lines::finish(before, keep);
-    if line.length == 0 {
+    if before.length == 0 {
         return 0;
     }
-    let kept = line.kept;
-    let mut commands = [0u8; Record::FRAME_SIZE];
-    let frames = put_line(first_bytes(keep, kept), out, 0, &mut commands, 0);
-    let used = Record::FRAME_SIZE * frames;
-    answer(pool, &commands[..used], out, 1)
+    take_in(&[LINE_FEED], before, keep, pool, out).filled
 }
