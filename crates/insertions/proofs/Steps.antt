@@ -10,6 +10,7 @@ use borrow.Author.Tests.{lt-ltb, le-ltb}
 use lib.Seq.{take-all, take-add, paste, take-paste, length-paste}
 use Rattle.geometry.specs.Limits.{mostMarks, lastColumn}
 use Rattle.fortran.specs.Mark.{markOf}
+use Rattle.fortran.proofs.Lists.{part-to-end}
 use Rattle.hex.specs.Lines.{lineOf, lineSize}
 use Rattle.hex.proofs.Written.{length-of-line}
 use Rattle.lines.specs.Lines.{Stands, Holds, Gathers, Finishes, ended, left, trim, piece, endBytes, linesOf}
@@ -156,11 +157,8 @@ none-yet chunk before keep out =
     }
 
 -- the part of a chunk from a place on
-pub rest-is : (chunk : List ℕ) (at : ℕ) → take (length chunk - at) (drop at chunk) ≡ drop at chunk
-rest-is chunk at = take-all (length chunk - at) (drop at chunk) (omega (arith, length-drop at chunk))
-
 pub length-rest : (chunk : List ℕ) (at : ℕ) → length (take (length chunk - at) (drop at chunk)) ≡ length chunk - at
-length-rest chunk at = ap length (rest-is chunk at) ∙ length-drop at chunk
+length-rest chunk at = ap length (part-to-end chunk at) ∙ length-drop at chunk
 
 -- two steps, one after the other
 pub both-taken : (chunk : List ℕ) (before between : Progress) (keep keep₁ keep₂ out out₁ out₂ : List ℕ) (at filled : ℕ) (step : Taken)
@@ -168,7 +166,7 @@ pub both-taken : (chunk : List ℕ) (before between : Progress) (keep keep₁ ke
     → TakesIn (take (length chunk - at) (drop at chunk)) between keep₁ keep₂ out₁ out₂ filled step
     → TakesIn chunk before keep keep₂ out out₂ 0 (record { taken = at + step .taken; filled = step .filled; after = step .after })
 both-taken chunk before between keep keep₁ keep₂ out out₁ out₂ at filled step so-far part =
-    let next : TakesIn (drop at chunk) between keep₁ keep₂ out₁ out₂ filled step = rw (rest-is chunk at) at part in
+    let next : TakesIn (drop at chunk) between keep₁ keep₂ out₁ out₂ filled step = rw (part-to-end chunk at) at part in
     record {
       within = omega (arith, so-far .within, next .within, length-drop at chunk);
       same = next .same ∙ so-far .same;
