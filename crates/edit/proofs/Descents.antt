@@ -8,27 +8,25 @@ use Prim.Native.Nat.{ℕ, suc, _+_, _-_, _≤_, _<_}
 use native.Mathlib.Nat.{eq-zero-or-pos}
 use native.Mathlib.Omega.{arith}
 use lib.ListN.{length, take, drop, length-append}
-use lib.Seq.{length-take-le}
 use Rattle.geometry.specs.Layout.{leastBranch, mostBranch}
 use Rattle.sequence.specs.Alphabet.{sumBelow}
 use Rattle.sequence.specs.Definition1.{isMark, count}
 use Rattle.shape.proofs.Choice.{by-leb}
 use Rattle.shape.proofs.Filled.{root-least}
 use Rattle.shape.proofs.Instances.{oneToAByte-proper}
-use Rattle.shape.proofs.Seat.{seat-takes, rest-takes, chosen-takes}
 use Rattle.shape.proofs.Steps.{splits-takes}
 use Rattle.shape.specs.Blocks.{divides, splits}
-use Rattle.shape.specs.Level.{Takes, seat, rest, chosen}
+use Rattle.shape.specs.Level.{Takes}
 use Rattle.shape.specs.Nested.{Node, total, marksIn}
-use Rattle.shape.specs.Paths.{path}
 use Rattle.shape.specs.Sizes.{oneToAByte, least}
-use Rattle.pool.proofs.Children.{length-shape, shape-around, told-before, told-all, told-takes, count-blocks}
+use Rattle.pool.proofs.Children.{shape-around, told-all, count-blocks}
 use Rattle.pool.proofs.Sums.{sumBelow-one}
 use Rattle.pool.specs.Blocks.{entries, link, marksBelow}
 use Rattle.pool.specs.Bytes.{shares}
 use Rattle.pool.specs.Sound.{SoundBlock}
-use Rattle.pool.specs.Trees.{shapeAt, blocksAt, entered, pathAt}
+use Rattle.pool.specs.Trees.{shapeAt, blocksAt, pathAt}
 use Rattle.edit.specs.Inserts.{InsertReady}
+use Rattle.entries.proofs.SeatedChildren.{seated-takes, seated-total, seated-path}
 use Rattle.entries.specs.Seats.{Seated}
 use Rattle.entries.specs.declared.Seat.{Seat}
 
@@ -44,12 +42,10 @@ module _ (p m : List ℕ) (h b i c holder : ℕ) (ready : InsertReady p m (suc h
   told k l = ready .below k l .2 .marks
 
   pub child-takes : Takes (marksIn h) i (take (s .k) (shapeAt p (suc h) b)) (shapeAt p h childOf) (drop (suc (s .k)) (shapeAt p (suc h) b))
-  child-takes =
-      told-takes p h b length length-append (marksBelow p b) told i (s .k) (seated .inside)
-      (λ (l : 0 < s .k). omega (arith, seated .past l, seated .sum)) (λ l. omega (arith, seated .reach l, seated .sum))
+  child-takes = seated-takes p h b length length-append (marksBelow p b) told i s seated
 
   pub before-total : total (marksIn h) (take (s .k) (shapeAt p (suc h) b)) ≡ s .before
-  before-total = sym (seated .sum ∙ told-before p h b length length-append (marksBelow p b) told (s .k) (omega (arith, seated .inside)))
+  before-total = seated-total p h b length length-append (marksBelow p b) told i s seated
 
   pub before-least : s .before < i
   unfolding sumBelow
@@ -105,16 +101,4 @@ module _ (p m : List ℕ) (h b i c holder : ℕ) (ready : InsertReady p m (suc h
 
   -- the path goes on in the child
   pub child-path : pathAt p (suc h) i b ≡ b ∷ pathAt p h (i - s .before) childOf
-  unfolding path
-  child-path =
-      let x : Node (suc h) = shapeAt p (suc h) b in
-      let front : List (Node h) = take (s .k) x in
-      let back : List (Node h) = drop (suc (s .k)) x in
-      let y : Node h = shapeAt p h childOf in
-      let f : Node h → ℕ = marksIn h in
-      let at : seat f i x ≡ s .k =
-      ap (seat f i) around ∙ seat-takes f i front y back child-takes ∙ length-take-le (s .k) x (omega (arith, length-shape p h b, seated .inside)) in
-      let left : rest f i x ≡ i - s .before = ap (rest f i) around ∙ rest-takes f i front y back child-takes ∙ ap (λ (n : ℕ). i - n) before-total in
-      let it : chosen f i x ≡ y = ap (chosen f i) around ∙ chosen-takes f i front y back child-takes in
-      ap (λ (k : ℕ). b ∷ entered p (link p b k) (path length h (rest f i x) (chosen f i x))) at
-      ∙ ap₂ (λ (j : ℕ) (z : Node h). b ∷ entered p childOf (path length h j z)) left it
+  child-path = seated-path p h b (marksBelow p b) told i s seated

@@ -31,9 +31,6 @@ use Rattle.edit.proofs.Siblings.{insert-total, insert-split}
 use Rattle.edit.proofs.TakeUps.{roots-one, roots-two}
 
 module _ (p m : List ℕ) (h b i c holder : ℕ) (ready : TreeReady p m h b i c holder) (g : Grown) (q l : List ℕ) (ins : Inserted h b i c holder g p q m l) where
-  split-is : cond {A = ℕ} (g .split) 1 0 ≡ cond (divides oneToAByte h i (shapeAt p h b)) 1 0
-  split-is = insert-split h b i c holder g p q m l (ready .node) ins
-
   module _ (whole : g .split ≡ false) where
     kept-sound : SoundBlock q (entries p b) h b × SoundBelow q mostAlphabet h b
     kept-sound =
@@ -61,7 +58,7 @@ module _ (p m : List ℕ) (h b i c holder : ℕ) (ready : TreeReady p m h b i c 
               );
           only = ins .only;
           entered = ins .entered;
-          took = omega (arith, ins .took, split-is, ap (λ (s : Bool). cond {A = ℕ} s 1 0) whole);
+          took = omega (arith, ins .took, insert-split h b i c holder g p q m l (ready .node) ins, ap (λ (s : Bool). cond {A = ℕ} s 1 0) whole);
         }
 
   module _ (parted : g .split ≡ true) where
@@ -70,7 +67,7 @@ module _ (p m : List ℕ) (h b i c holder : ℕ) (ready : TreeReady p m h b i c 
         subst (λ (s : Bool). All (λ x. SoundBlock q (cond s (least oneToAByte h) (entries p b)) h x × SoundBelow q mostAlphabet h x) (cond s (b ∷ g .new ∷ []) (b ∷ []))) parted (ins .sound)
 
     one-more : cond {A = ℕ} (divides oneToAByte h i (shapeAt p h b)) 1 0 ≡ 1
-    one-more = sym split-is ∙ ap (λ (s : Bool). cond {A = ℕ} s 1 0) parted
+    one-more = sym (insert-split h b i c holder g p q m l (ready .node) ins) ∙ ap (λ (s : Bool). cond {A = ℕ} s 1 0) parted
 
     pub root-ready : RootReady q l h b (g .new) holder
     root-ready =

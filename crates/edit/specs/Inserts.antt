@@ -33,7 +33,7 @@ abbrev pub leastAfter : Grown → ℕ → ℕ → ℕ
 leastAfter r h before = cond (r .split) (least oneToAByte h) before
 
 -- a map that has a byte for each block of the pool, and a holder to enter in it
-pub record MapOf (p m : List ℕ) (holder : ℕ) : Type 0 where
+pub record MapFor (p m : List ℕ) (holder : ℕ) : Type 0 where
   pub blocks : length m ≡ shares p
   pub named : 0 < holder
   pub longest : length p ≤ longestPool
@@ -41,7 +41,7 @@ pub record MapOf (p m : List ℕ) (holder : ℕ) : Type 0 where
 -- a mark c can be put in at place i of the tree at block b: the tree is sound and the map has its blocks as held, the place is there,
 -- and there are as many free blocks as nodes will split
 pub record InsertReady (p m : List ℕ) (h b i c holder : ℕ) : Type 0 where
-  pub map : MapOf p m holder
+  pub map : MapFor p m holder
   pub block : SoundBlock p (rootLeast h) h b
   pub below : SoundBelow p mostAlphabet h b
   pub agrees : Agrees m (blocksAt p h b)

@@ -15,7 +15,7 @@ use Rattle.pool.specs.Words.{wordLimit}
 use Rattle.blocks.specs.Contents.{entryList}
 use Rattle.entries.specs.declared.Summary.{Summary}
 use Rattle.edit.specs.Entries.{Holds, SoundChild}
-use Rattle.edit.specs.Inserts.{MapOf}
+use Rattle.edit.specs.Inserts.{MapFor}
 use Rattle.edit.specs.Maps.{isFree, freeIn, Entered, Agrees}
 
 -- the block is a branch with these two entries
@@ -30,7 +30,7 @@ pub record PairWritten (b left right : ℕ) (first second : Summary) (p q : List
 
 -- two trees of level h can be put under a new root
 pub record RootReady (p m : List ℕ) (h left right holder : ℕ) : Type 0 where
-  pub map : MapOf p m holder
+  pub map : MapFor p m holder
   pub leftSound : SoundChild p h left
   pub rightSound : SoundChild p h right
   pub agrees : Agrees m (joined (blocksAt p h) (left ∷ right ∷ []))

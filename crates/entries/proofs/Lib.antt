@@ -6,3 +6,4 @@ pub mod Written
 pub mod Neighbours
 pub mod Telling
 pub mod Seats
+pub mod SeatedChildren

@@ -6,6 +6,8 @@ use Prim.Native.Nat.{ℕ, _+_, _-_, _*_, _≤_, _<_, min}
 use native.Mathlib.Omega.{arith}
 use lib.ListN.{length, length-append}
 use Rattle.blocks.specs.Contents.{LeafAt}
+use Rattle.entries.proofs.Levels.{at-leaf, at-branch}
+use Rattle.entries.proofs.SeatedChildren.{seated-range, seated-path}
 use Rattle.entries.specs.Summaries.{wordsAt}
 use Rattle.geometry.specs.Layout.{entryMarksAt, entryCountsAt, wordSize, leastBranch}
 use Rattle.geometry.specs.Limits.{mostAlphabet}
@@ -26,8 +28,7 @@ use Rattle.query.specs.Answers.{FoundIn}
 use Rattle.query.specs.Good.{Good}
 use Rattle.entries.specs.Seats.{Seated}
 use Rattle.entries.specs.declared.Seat.{Seat}
-use Rattle.query.proofs.Levels.{at-leaf, at-branch}
-use Rattle.query.proofs.Steps.{seated-range, told-marks, told-count, path-step, access-step, rank-step, select-step}
+use Rattle.query.proofs.Steps.{told-marks, told-count, access-step, rank-step, select-step}
 
 -- a leaf
 module _ (p : List ℕ) (level b : ℕ) (leaf : level ≡ 0) where
@@ -107,7 +108,7 @@ module _ (p : List ℕ) (level b : ℕ) (branch : level ≡ 0 → ⊥) where
         let there : FoundIn p h (link p b (r .k)) (i - r .before) mark (before + 1) entered = rw linked at below in
         record {
           is = there .is ∙ sym (access-step p h b good i r seated place one);
-          blocks = omega (arith, there .blocks, ap length (path-step p h b good i r seated));
+          blocks = omega (arith, there .blocks, ap length (seated-path p h b (wordsAt p b entryMarksAt) (told-marks p h b good) i r seated));
         })
 
     pub ranked-below : (c i passed below : ℕ) → c < mostAlphabet → Seated (wordsAt p b entryMarksAt) (entries p b) i r

@@ -1,4 +1,3 @@
-pub mod Levels
 pub mod Trees
 pub mod Steps
 pub mod Descents

@@ -2,48 +2,26 @@
 -- at what is left of the place, behind what the children before it add.
 -- Assumes nothing.
 use mathlib.Core.Path.{_≡_, sym, ap, ap₂, _∙_}
-use mathlib.Core.List.{List, _∷_}
-use Prim.Native.Nat.{ℕ, suc, _+_, _-_, _*_, _≤_, _<_, min}
+use mathlib.Core.List.{List}
+use Prim.Native.Nat.{ℕ, suc, _+_, _-_, _*_, _≤_, _<_}
 use native.Mathlib.Nat.{add-assoc}
 use native.Mathlib.Omega.{arith}
-use lib.ListN.{length, take, drop, length-append, length-take}
+use lib.ListN.{length, take, drop, length-append}
+use Rattle.entries.proofs.SeatedChildren.{seated-takes, seated-total}
 use Rattle.entries.specs.Summaries.{wordsAt}
 use Rattle.geometry.specs.Layout.{entryMarksAt, entryCountsAt, wordSize}
 use Rattle.geometry.specs.Limits.{mostAlphabet}
 use Rattle.pool.specs.Blocks.{entries, link}
-use Rattle.pool.specs.Trees.{shapeAt, pathAt, entered}
-use Rattle.pool.proofs.Children.{length-shape, shape-around, told-before, told-takes}
+use Rattle.pool.specs.Trees.{shapeAt}
+use Rattle.pool.proofs.Children.{shape-around, told-before}
 use Rattle.sequence.specs.Alphabet.{sumBelow}
 use Rattle.sequence.specs.Definition1.{count, access, rank, select}
-use Rattle.sequence.proofs.Measures.{Additive, count-additive}
-use Rattle.shape.specs.Fill.{Within}
-use Rattle.shape.specs.Level.{Takes, seat, rest, chosen}
-use Rattle.shape.specs.Nested.{Node, total, flat, marksIn}
-use Rattle.shape.specs.Paths.{path}
-use Rattle.shape.proofs.Seat.{seat-takes, rest-takes, chosen-takes}
-use Rattle.shape.proofs.Steps.{takes-range, access-takes, rank-takes, select-takes}
+use Rattle.sequence.proofs.Measures.{count-additive}
+use Rattle.shape.specs.Nested.{Node, flat, marksIn}
+use Rattle.shape.proofs.Steps.{access-takes, rank-takes, select-takes}
 use Rattle.query.specs.Good.{Good}
 use Rattle.entries.specs.Seats.{Seated}
 use Rattle.entries.specs.declared.Seat.{Seat}
-
--- By any measure that the entries tell.
-module _ (p : List ℕ) (h b : ℕ) (μ : List ℕ → ℕ) (additive : Additive μ) (m : ℕ → ℕ) (told : (k : ℕ) → k < entries p b → m k ≡ μ (flat h (shapeAt p h (link p b k))))
-    (i : ℕ) (r : Seat) (seated : Seated m (entries p b) i r) where
-  -- the chosen child takes i
-  pub seated-takes : Takes (λ y. μ (flat h y)) i (take (r .k) (shapeAt p (suc h) b)) (shapeAt p h (link p b (r .k))) (drop (suc (r .k)) (shapeAt p (suc h) b))
-  seated-takes =
-      told-takes p h b μ additive m told i (r .k) (seated .inside) (λ some. omega (arith, seated .past some, seated .sum)) (λ more. omega (arith, seated .reach more, seated .sum))
-
-  -- what stands before it
-  pub seated-total : total (λ y. μ (flat h y)) (take (r .k) (shapeAt p (suc h) b)) ≡ r .before
-  seated-total = sym (seated .sum ∙ told-before p h b μ additive m told (r .k) (omega (arith, seated .inside)))
-
-  -- what is left of i is in its range
-  pub seated-range : i ≤ μ (flat (suc h) (shapeAt p (suc h) b)) → Within (min i 1) (μ (flat h (shapeAt p h (link p b (r .k))))) (i - r .before)
-  seated-range within =
-      let range = takes-range μ additive h i (take (r .k) (shapeAt p (suc h) b)) (shapeAt p h (link p b (r .k))) (drop (suc (r .k)) (shapeAt p (suc h) b)) seated-takes
-      (rw (shape-around p h b (r .k) (seated .inside)) at within) in
-      record { enough = omega (arith, range .enough, seated-total); fits = omega (arith, range .fits, seated-total) }
 
 module _ (p : List ℕ) (h b : ℕ) (good : Good p (suc h) b) where
   pub told-marks : (k : ℕ) → k < entries p b → wordsAt p b entryMarksAt k ≡ marksIn h (shapeAt p h (link p b k))
@@ -52,27 +30,8 @@ module _ (p : List ℕ) (h b : ℕ) (good : Good p (suc h) b) where
   pub told-count : (c : ℕ) → c < mostAlphabet → (k : ℕ) → k < entries p b → wordsAt p b (entryCountsAt + wordSize * c) k ≡ count c (flat h (shapeAt p h (link p b k)))
   told-count c low k inside = rw (← add-assoc) (good .1 k inside .1 .counts c low)
 
-  -- by marks: access, its way down, and rank
+  -- by marks: access and rank
   module _ (i : ℕ) (r : Seat) (seated : Seated (wordsAt p b entryMarksAt) (entries p b) i r) where
-    -- the way down enters this block, and goes on from the chosen child
-    pub path-step : pathAt p (suc h) i b ≡ b ∷ pathAt p h (i - r .before) (link p b (r .k))
-    unfolding path
-    path-step =
-        let xs : Node (suc h) = shapeAt p (suc h) b in
-        let before : List (Node h) = take (r .k) xs in
-        let x : Node h = shapeAt p h (link p b (r .k)) in
-        let after : List (Node h) = drop (suc (r .k)) xs in
-        let takes = seated-takes p h b length length-append (wordsAt p b entryMarksAt) told-marks i r seated in
-        let around = shape-around p h b (r .k) (seated .inside) in
-        let number : seat (marksIn h) i xs ≡ r .k
-        = ap (seat (marksIn h) i) around ∙ seat-takes (marksIn h) i before x after takes ∙ omega (arith, length-take (r .k) xs, length-shape p h b, seated .inside) in
-        let left : rest (marksIn h) i xs ≡ i - r .before
-        = ap (rest (marksIn h) i) around ∙ rest-takes (marksIn h) i before x after takes
-        ∙ ap (λ (n : ℕ). i - n) (seated-total p h b length length-append (wordsAt p b entryMarksAt) told-marks i r seated) in
-        let child : chosen (marksIn h) i xs ≡ x = ap (chosen (marksIn h) i) around ∙ chosen-takes (marksIn h) i before x after takes in
-        ap (λ (k : ℕ). b ∷ entered p (link p b k) (path length h (rest (marksIn h) i xs) (chosen (marksIn h) i xs))) number
-        ∙ ap₂ (λ (n : ℕ) (y : Node h). b ∷ entered p (link p b (r .k)) (path length h n y)) left child
-
     module _ (place : i ≤ marksIn (suc h) (shapeAt p (suc h) b)) where
       pub access-step : 1 ≤ i → access (flat (suc h) (shapeAt p (suc h) b)) i ≡ access (flat h (shapeAt p h (link p b (r .k)))) (i - r .before)
       access-step one =

@@ -15,14 +15,14 @@ use Rattle.sequence.specs.Definition1.{isMark, count, access, delete}
 use Rattle.shape.proofs.Filled.{least-two, root-least}
 use Rattle.shape.proofs.Instances.{oneToAByte-proper}
 use Rattle.shape.proofs.Marks.{deleteNode-marks}
-use Rattle.shape.proofs.Steps.{deleteNode-takes, takes-range, access-takes}
+use Rattle.shape.proofs.Steps.{deleteNode-takes, access-takes}
 use Rattle.shape.specs.Fill.{Within}
 use Rattle.shape.specs.Level.{Takes, mend}
 use Rattle.shape.specs.Nested.{Node, total, flat, marksIn}
 use Rattle.shape.specs.Sizes.{oneToAByte, least, most}
 use Rattle.shape.specs.Trees.{deleteNode}
 use Rattle.pool.proofs.Changed.{only-then, only-wider}
-use Rattle.pool.proofs.Children.{shape-around, shape-before, shape-after, told-before, told-all, told-takes, count-blocks}
+use Rattle.pool.proofs.Children.{shape-around, shape-before, shape-after, told-all, count-blocks}
 use Rattle.pool.proofs.Frames.{same-entries, same-link, same-marksBelow, same-countBelow, same-block}
 use Rattle.pool.proofs.Froms.{from-same, map-from}
 use Rattle.pool.proofs.SoundTrees.{sound-marks}
@@ -33,6 +33,7 @@ use Rattle.pool.specs.Changes.{SameBlock, Only}
 use Rattle.pool.specs.Sound.{SoundBlock, Tells}
 use Rattle.pool.specs.Trees.{shapeAt, blocksAt}
 use Rattle.sequence.specs.Alphabet.{sumBelow}
+use Rattle.entries.proofs.SeatedChildren.{seated-takes, seated-total, seated-range}
 use Rattle.entries.proofs.Telling.{entry-tells}
 use Rattle.edit.specs.Maps.{isFree}
 use Rattle.entries.specs.Seats.{Seated}
@@ -57,21 +58,17 @@ module _ (p m : List ℕ) (h b i : ℕ) (ready : DeleteReady p m (suc h) b i) (s
   told k l = ready .below k l .2 .marks
 
   takes : Takes (marksIn h) i front (shapeAt p h childOf) back
-  takes =
-      told-takes p h b length length-append (marksBelow p b) told i (s .k) (seated .inside)
-      (λ (l : 0 < s .k). omega (arith, seated .past l, seated .sum)) (λ l. omega (arith, seated .reach l, seated .sum))
+  takes = seated-takes p h b length length-append (marksBelow p b) told i s seated
 
   before-total : total (marksIn h) front ≡ s .before
-  before-total = sym (seated .sum ∙ told-before p h b length length-append (marksBelow p b) told (s .k) (omega (arith, seated .inside)))
+  before-total = seated-total p h b length length-append (marksBelow p b) told i s seated
 
   around : shapeAt p (suc h) b ≡ front ++ shapeAt p h childOf ∷ back
   around = shape-around p h b (s .k) (seated .inside)
 
   -- the place is in the child
   within : Within 1 (marksIn h (shapeAt p h childOf)) (i - s .before)
-  within =
-      let range = takes-range length length-append h i front (shapeAt p h childOf) back takes (omega (arith, ready .last, ap (marksIn (suc h)) around)) in
-      omega (arith, range, before-total, ready .first)
+  within = omega (arith, seated-range p h b length length-append (marksBelow p b) told i s seated (ready .last), ready .first)
 
   -- the blocks below a child are the branch's too, and the branch is none of them
   child-blocks : (j : ℕ) → j < entries p b → (x : ℕ) → isMark x b + count x (blocksAt p h (link p b j)) ≤ count x (blocksAt p (suc h) b)

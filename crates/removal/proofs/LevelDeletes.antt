@@ -1,22 +1,20 @@
 -- A delete by level, as the code tells levels apart: at a leaf a mark is taken out, at a branch the child's delete is taken up.
 -- Assumes nothing.
-use mathlib.Core.Path.{_≡_, refl, ap, _∙_}
+use mathlib.Core.Path.{_≡_, refl, _∙_}
 use mathlib.Core.List.{List}
-use mathlib.Core.Logic.{⊎-elim}
 use Prim.Native.Nat.{ℕ, _-_, _≤_, _<_}
-use native.Mathlib.Nat.{eq-zero-or-pos}
 use native.Mathlib.Omega.{arith}
 use lib.ListN.{length}
 use Rattle.geometry.specs.Layout.{leastBranch, mostBranch}
 use Rattle.geometry.specs.Limits.{mostAlphabet}
 use Rattle.sequence.proofs.Edits.{allBelow-delete}
-use Rattle.sequence.specs.Alphabet.{sumBelow}
 use Rattle.shape.specs.Trees.{deleteNode}
 use Rattle.pool.proofs.Changed.{only-wider}
 use Rattle.pool.specs.Blocks.{entries, leafMarks, link, marksBelow}
 use Rattle.pool.specs.Bytes.{shares}
 use Rattle.blocks.specs.Contents.{LeafAt}
 use Rattle.blocks.specs.Leaves.{MarkDeleted}
+use Rattle.entries.proofs.Levels.{at-leaf, at-branch}
 use Rattle.entries.specs.Summaries.{Is}
 use Rattle.entries.specs.Seats.{Seated}
 use Rattle.entries.specs.declared.Seat.{Seat}
@@ -24,7 +22,6 @@ use Rattle.removal.specs.Mends.{SettleReady, Mended}
 use Rattle.removal.specs.Removals.{DeleteReady, Deleted}
 use Rattle.removal.proofs.ChildDeletes.{child-ready, settle-ready, level-deleted}
 use Rattle.removal.proofs.Frees.{freed-none}
-use Rattle.removal.proofs.Levels.{at-leaf, at-branch}
 use Rattle.removal.proofs.PairMends.{own-block}
 
 -- A leaf.
@@ -58,12 +55,6 @@ module _ (p m : List ℕ) (level b i : ℕ) (leaf : level ≡ 0) where
 
   pub leaf-deleted : (r : ℕ) (q : List ℕ) → DeleteReady p m level b i → MarkDeleted b i r p q → Deleted level b i r p q m m
   leaf-deleted r q = at-leaf (λ l. DeleteReady p m l b i → MarkDeleted b i r p q → Deleted l b i r p q m m) level leaf (leaf-deleted-at r q)
-
--- what stands before the child that takes the place
-pub seated-before : (f : ℕ → ℕ) (many i : ℕ) (s : Seat) → Seated f many i s → s .before ≤ i
-unfolding sumBelow
-seated-before f many i s seated =
-    ⊎-elim (λ (e : s .k ≡ 0). omega (arith, seated .sum, ap (λ (k : ℕ). sumBelow k f) e)) (λ l. omega (arith, seated .past l)) (eq-zero-or-pos (s .k))
 
 -- A branch.
 module _ (p m : List ℕ) (level b i : ℕ) (branch : level ≡ 0 → ⊥) where

@@ -1,5 +1,4 @@
 pub mod Frees
-pub mod Levels
 pub mod KeptTrees
 pub mod NodeMends
 pub mod PairMends

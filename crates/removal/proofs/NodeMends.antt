@@ -30,7 +30,7 @@ use Rattle.blocks.specs.Leaves.{LeavesJoined, LeavesShared}
 use Rattle.edit.proofs.GoodEntries.{GoodEntry, shapeIn, blocksIn, below-good, good-below, shape-entries, blocks-entries}
 use Rattle.edit.proofs.Pieces.{map-append, map-chop}
 use Rattle.removal.specs.Mends.{TwoNodes, NodesJoined, NodesShared}
-use Rattle.removal.proofs.KeptTrees.{kept-good, kept-shapes, kept-blocks}
+use Rattle.removal.proofs.KeptTrees.{kept-entries}
 
 -- the first of two equal pairs, and the second
 first-is : {A : Type 0} (x y u v : A) → _≡_ {A = List A} (x ∷ y ∷ []) (u ∷ v ∷ []) → x ≡ u
@@ -171,13 +171,13 @@ module _ (p q : List ℕ) (h left right : ℕ) (two : TwoNodes p (suc h) left ri
 
   module _ (only : Only (λ x. (x ≡ left) ⊎ (x ≡ right)) p q) where
     still-good : All (GoodEntry q h) all-entries
-    still-good = kept-good p q only h all-entries entries-good apart-both
+    still-good = kept-entries p q only h all-entries entries-good apart-both .good
 
     same-shapes : map (shapeIn q h) all-entries ≡ shapeAt p (suc h) left ++ shapeAt p (suc h) right
-    same-shapes = kept-shapes p q only h all-entries entries-good apart-both ∙ all-shapes
+    same-shapes = kept-entries p q only h all-entries entries-good apart-both .shapes ∙ all-shapes
 
     same-under : (x : ℕ) → count x (joined (blocksIn q h) all-entries) ≡ under x all-entries
-    same-under x = ap (count x) (kept-blocks p q only h all-entries entries-good apart-both)
+    same-under x = ap (count x) (kept-entries p q only h all-entries entries-good apart-both .blocks)
 
   pub branches-join : entries p left + entries p right ≤ mostBranch → BranchesJoined left right p q → NodesJoined (suc h) left right p q
   unfolding count

@@ -31,7 +31,7 @@ use Rattle.edit.specs.Entries.{TrueEntry, SoundChild}
 use Rattle.edit.specs.Maps.{isFree}
 use Rattle.removal.specs.Frees.{Freed}
 use Rattle.removal.specs.Mends.{TwoNodes, NodesMended, PairReady, pairShape, PairMended}
-use Rattle.removal.proofs.KeptTrees.{all-good, kept-good, kept-shapes, kept-blocks}
+use Rattle.removal.proofs.KeptTrees.{all-good, kept-entries}
 
 -- a list around two items that stand side by side
 pub split-two : {A : Type 0} (d : A) (xs : List A) (k : ℕ) → suc k < length xs → xs ≡ take k xs ++ getD xs k d ∷ getD xs (suc k) d ∷ drop (suc (suc k)) xs
@@ -144,8 +144,8 @@ module _ (p m : List ℕ) (h b k : ℕ) (ready : PairReady p m h b k) where
     mended-good : All (GoodEntry r h) (entryList r b)
     mended-good =
         rw list
-        (all-append (GoodEntry r h) front (fresh ++ back) (kept-good p r changed h front front-good front-apart)
-        (all-append (GoodEntry r h) fresh back (kept-good q r only h fresh fresh-good fresh-apart) (kept-good p r changed h back back-good back-apart)))
+        (all-append (GoodEntry r h) front (fresh ++ back) (kept-entries p r changed h front front-good front-apart .good)
+        (all-append (GoodEntry r h) fresh back (kept-entries q r only h fresh fresh-good fresh-apart .good) (kept-entries p r changed h back back-good back-apart .good)))
 
     mended-shape : shapeAt r (suc h) b ≡ pairShape p h b k
     mended-shape =
@@ -153,11 +153,11 @@ module _ (p m : List ℕ) (h b k : ℕ) (ready : PairReady p m h b k) where
         ∙ ap (map (shapeIn r h)) list
         ∙ map-append (shapeIn r h) front (fresh ++ back)
         ∙ ap₂ (λ (u v : Node (suc h)). u ++ v)
-        (kept-shapes p r changed h front front-good front-apart ∙ map-take (shapeIn p h) k (entryList p b) ∙ ap (take k) (sym (shape-entries p h b)))
+        (kept-entries p r changed h front front-good front-apart .shapes ∙ map-take (shapeIn p h) k (entryList p b) ∙ ap (take k) (sym (shape-entries p h b)))
         (map-append (shapeIn r h) fresh back
         ∙ ap₂ (λ (u v : Node (suc h)). u ++ v)
-        (kept-shapes q r only h fresh fresh-good fresh-apart ∙ sym (map-twice (shapeAt q h) linkIn fresh) ∙ ap (map (shapeAt q h)) links ∙ mended .shapes)
-        (kept-shapes p r changed h back back-good back-apart ∙ map-drop (shapeIn p h) (suc (suc k)) (entryList p b) ∙ ap (drop (suc (suc k))) (sym (shape-entries p h b))))
+        (kept-entries q r only h fresh fresh-good fresh-apart .shapes ∙ sym (map-twice (shapeAt q h) linkIn fresh) ∙ ap (map (shapeAt q h)) links ∙ mended .shapes)
+        (kept-entries p r changed h back back-good back-apart .shapes ∙ map-drop (shapeIn p h) (suc (suc k)) (entryList p b) ∙ ap (drop (suc (suc k))) (sym (shape-entries p h b))))
 
     mended-blocks : (x : ℕ) → count x (blocksAt r (suc h) b) + isFree n x ≡ count x (blocksAt p (suc h) b) + isFree m x
     unfolding count
@@ -165,9 +165,9 @@ module _ (p m : List ℕ) (h b k : ℕ) (ready : PairReady p m h b k) where
         let parts : joined (blocksIn r h) (entryList r b) ≡ joined (blocksIn p h) front ++ (joined (blocksIn q h) fresh ++ joined (blocksIn p h) back) =
         ap (joined (blocksIn r h)) list
         ∙ joined-append (blocksIn r h) front (fresh ++ back)
-        ∙ ap₂ (λ (u v : List ℕ). u ++ v) (kept-blocks p r changed h front front-good front-apart)
+        ∙ ap₂ (λ (u v : List ℕ). u ++ v) (kept-entries p r changed h front front-good front-apart .blocks)
         (joined-append (blocksIn r h) fresh back
-        ∙ ap₂ (λ (u v : List ℕ). u ++ v) (kept-blocks q r only h fresh fresh-good fresh-apart) (kept-blocks p r changed h back back-good back-apart)) in
+        ∙ ap₂ (λ (u v : List ℕ). u ++ v) (kept-entries q r only h fresh fresh-good fresh-apart .blocks) (kept-entries p r changed h back back-good back-apart .blocks)) in
         omega (
           arith,
           ap (count x) (blocks-entries r h b),

@@ -27,9 +27,9 @@ use Rattle.entries.proofs.Neighbours.{link-apart, entries-kept, form-kept, only
 use Rattle.entries.proofs.Telling.{entry-tells, apart-tells}
 use Rattle.entries.specs.Entries.{TakeMark}
 use Rattle.edit.specs.Maps.{isFree}
-use Rattle.removal.specs.Mends.{SoundPart, ShortReady, SettleReady, Mended}
+use Rattle.removal.specs.Mends.{ShortReady, SettleReady, Mended}
 use Rattle.removal.proofs.KeptParts.{part-shape, part-blocks, part-sound}
-use Rattle.removal.proofs.ShortChildren.{fewer}
+use Rattle.removal.proofs.ShortChildren.{each-part}
 
 module _ (p m : List ℕ) (h b k c : ℕ) (ready : SettleReady p m h b k c) where
   two : 2 ≤ least oneToAByte h
@@ -43,10 +43,6 @@ module _ (p m : List ℕ) (h b k c : ℕ) (ready : SettleReady p m h b k c) wher
     (ready .block .inside, inside-branch, ready .symbol),
     (omega (arith, ready .marks), omega (arith, ready .counts c (ready .symbol), isMark-same c c refl)),
   )
-
-  part : (j : ℕ) → j < entries p b → SoundPart p (least oneToAByte h - 1) h (link p b j)
-  part j inside =
-      ⊎-elim (λ w. rw (w .0) (ready .child)) (λ w. fewer p (least oneToAByte h) (least oneToAByte h - 1) h (link p b j) (omega arith) (ready .others j inside (w .0) .0)) (isMark-cases k j)
 
   -- the branch is in no child's tree
   apart : (j : ℕ) → j < entries p b → (y : ℕ) → 1 ≤ count y (blocksAt p h (link p b j)) → y ≡ b → ⊥
@@ -64,10 +60,10 @@ module _ (p m : List ℕ) (h b k c : ℕ) (ready : SettleReady p m h b k c) wher
     same-link j = ⊎-elim (λ w. rw (w .0) (put .link)) (λ w. link-apart b k (put .same) j (w .0)) (isMark-cases k j)
 
     kept : (j : ℕ) → j < entries p b → shapeAt q h (link p b j) ≡ shapeAt p h (link p b j)
-    kept j inside = part-shape p q only (least oneToAByte h - 1) h (link p b j) (omega (arith, two)) (part j inside) (apart j inside)
+    kept j inside = part-shape p q only (least oneToAByte h - 1) h (link p b j) (omega (arith, two)) (each-part p h b k (ready .child) (ready .others) j inside) (apart j inside)
 
     kept-trees : (j : ℕ) → j < entries p b → blocksAt q h (link p b j) ≡ blocksAt p h (link p b j)
-    kept-trees j inside = part-blocks p q only (least oneToAByte h - 1) h (link p b j) (omega (arith, two)) (part j inside) (apart j inside)
+    kept-trees j inside = part-blocks p q only (least oneToAByte h - 1) h (link p b j) (omega (arith, two)) (each-part p h b k (ready .child) (ready .others) j inside) (apart j inside)
 
     same-children : children q b ≡ children p b
     same-children = ap (from (link q b) 0) many ∙ from-same (link q b) (link p b) 0 (entries p b) (λ j _ _. same-link j)

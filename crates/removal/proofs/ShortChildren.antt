@@ -40,6 +40,13 @@ node-length p fewest (suc h) x block = length-shape p h x
 pub fewer : (p : List ℕ) (many few h x : ℕ) → few ≤ many → SoundPart p many h x → SoundPart p few h x
 fewer p many few h x low sound = (record { inside = sound .0 .inside; form = sound .0 .form; enough = omega (arith, sound .0 .enough); fits = sound .0 .fits }, sound .1)
 
+-- every child of a branch of which one may be short
+pub each-part : (p : List ℕ) (h b k : ℕ) → SoundPart p (least oneToAByte h - 1) h (link p b k)
+    → ((j : ℕ) → j < entries p b → (j ≡ k → ⊥) → SoundChild p h (link p b j) × Tells p h b j)
+    → (j : ℕ) → j < entries p b → SoundPart p (least oneToAByte h - 1) h (link p b j)
+each-part p h b k child others j inside =
+    ⊎-elim (λ w. rw (w .0) child) (λ w. fewer p (least oneToAByte h) (least oneToAByte h - 1) h (link p b j) (omega arith) (others j inside (w .0) .0)) (isMark-cases k j)
+
 -- an entry that tells its child's marks is a true one
 tells-true : (p : List ℕ) (h b j : ℕ) → SoundChild p h (link p b j) × Tells p h b j → SoundChild p h (linkIn (entryBytes p b j)) × TrueEntry p h (entryBytes p b j)
 tells-true p h b j good = (
@@ -54,11 +61,6 @@ module _ (p m : List ℕ) (h b k : ℕ) (ready : ShortReady p m h b k) where
   two : 2 ≤ least oneToAByte h
   two = least-two oneToAByte oneToAByte-proper h
 
-  -- every child, short or not
-  part : (j : ℕ) → j < entries p b → SoundPart p (least oneToAByte h - 1) h (link p b j)
-  part j inside =
-      ⊎-elim (λ w. rw (w .0) (ready .child)) (λ w. fewer p (least oneToAByte h) (least oneToAByte h - 1) h (link p b j) (omega arith) (ready .others j inside (w .0) .0)) (isMark-cases k j)
-
   some-good : (j many : ℕ) → j + many ≤ entries p b → ((i : ℕ) → j ≤ i → i < j + many → i ≡ k → ⊥) → AllGood p h (from (entryBytes p b) j many)
   some-good j many fits other =
       all-from (λ e. SoundChild p h (linkIn e) × TrueEntry p h e) (entryBytes p b) j many
@@ -69,8 +71,8 @@ module _ (p m : List ℕ) (h b k : ℕ) (ready : ShortReady p m h b k) where
   unfolding entryList
   pair-ready j inside front back =
       let next : suc j ≡ j + 1 = omega arith in
-      let left = part j (omega arith) in
-      let right : SoundPart p (least oneToAByte h - 1) h (link p b (j + 1)) = part (j + 1) (omega arith) in
+      let left = each-part p h b k (ready .child) (ready .others) j (omega arith) in
+      let right : SoundPart p (least oneToAByte h - 1) h (link p b (j + 1)) = each-part p h b k (ready .child) (ready .others) (j + 1) (omega arith) in
       let below : ℕ → ℕ = λ i. marksIn h (shapeAt p h (link p b i)) in
       record {
         map = ready .map;

@@ -37,14 +37,10 @@ SoundUnder p alphabet (suc h) b = SoundBelow p alphabet (suc h) b
 abbrev pub WalkedTree : List ℕ → ℕ → ℕ → ℕ → ℕ → Type 0
 WalkedTree p alphabet fewest h b = SoundBlock p fewest h b × SoundUnder p alphabet h b
 
--- child k of a branch, at level h, and what its entry says of it
-abbrev pub SoundChild : List ℕ → ℕ → ℕ → ℕ → ℕ → Type 0
-SoundChild p alphabet h b k =
-    SoundBlock p (least oneToAByte h) h (link p b k) × SoundBelow p alphabet h (link p b k) × Tells p h b k
-
--- so many children in turn, from child k on
+-- so many children of a branch in turn, from child k on: each at level h, with what its entry says of it
 abbrev pub SoundChildren : List ℕ → ℕ → ℕ → ℕ → ℕ → ℕ → Type 0
-SoundChildren p alphabet h b k left = (j : ℕ) → k ≤ j → j < k + left → SoundChild p alphabet h b j
+SoundChildren p alphabet h b k left = (j : ℕ) → k ≤ j → j < k + left
+    → SoundBlock p (least oneToAByte h) h (link p b j) × SoundBelow p alphabet h (link p b j) × Tells p h b j
 
 -- entry k of a branch is the summary of the block `child`, by that block's own bytes
 pub record Repeats (p : List ℕ) (h b k child : ℕ) : Type 0 where

@@ -7,7 +7,8 @@ use native.Mathlib.Omega.{arith}
 use borrow.Author.Needs.{needs}
 use borrow.Fn.Kinds.{In}
 use borrow.Fn.PlainCycle.{Measures, is, falls, and}
-use Rattle.removal.proofs.LevelDeletes.{leaf-ready, leaf-deleted, seated-before, branch-ready, link-ready, below-ready, taken-below, branch-deleted}
+use Rattle.entries.proofs.Seats.{seated-before}
+use Rattle.removal.proofs.LevelDeletes.{leaf-ready, leaf-deleted, branch-ready, link-ready, below-ready, taken-below, branch-deleted}
 use Rattle.removal.proofs.deletes.delete_in.Reads as delete-in
 use Rattle.removal.proofs.deletes.delete_in.Kinds as delete-in-kinds
 use Rattle.removal.proofs.deletes.+delete_in.Lts-delete_in as delete-in-lts
