@@ -1,8 +1,5 @@
 // The first program: reads frames from standard input, one as hexadecimal on each line, and writes an answer line for each.
 // The crate `sessions` has the work, with its proofs; here bytes are only read and written.
-ghost use Prim.Native.Nat.{_≤_};
-ghost use lib.ListN.{length};
-ghost use Rattle.hex.specs.Lines.{lineSize};
 use geometry::Record;
 use hex::LINE_SIZE;
 use libc::STDERR_FILENO;
@@ -20,27 +17,19 @@ enum Round {
     Failed,
 }
 
+// A proved loop has to end, and nothing says that the input does: the turns are counted down from a number that no run uses up.
 fn main() {
     let mut keep = [0u8; LINE_SIZE];
     let mut pool = [0u8; Record::PROGRAM_POOL];
-    let mut chunk = [0u8; CHUNK];
-    let mut out = io::large_buffer();
-    answer_all(&mut keep, &mut pool, &mut chunk, &mut out);
-}
-
-// A proved loop has to end, and nothing says that the input does: the turns are counted down from a number that no run uses up.
-fn answer_all(keep: &mut [u8], pool: &mut [u8], chunk: &mut [u8], out: &mut [u8])
-    requires { ⌜ lineSize ≤ length (now out) ⌝ }
-{
-    let mut line = sessions::start(pool);
+    let mut line = sessions::start(&mut pool);
     let mut turns = u64::MAX;
     while turns > 0 {
-        match answer_once(line, keep, pool, chunk, out) {
+        match answer_once(line, &mut keep, &mut pool) {
             Round::More(next) => {
                 line = next;
             }
             Round::Over => {
-                answer_last(line, keep, pool, out);
+                answer_last(line, &mut keep, &mut pool);
                 return;
             }
             Round::Failed => {
@@ -52,16 +41,9 @@ fn answer_all(keep: &mut [u8], pool: &mut [u8], chunk: &mut [u8], out: &mut [u8]
 }
 
 // Reads once and answers the lines that end in what came.
-fn answer_once(
-    line: Gathered,
-    keep: &mut [u8],
-    pool: &mut [u8],
-    chunk: &mut [u8],
-    out: &mut [u8],
-) -> Round
-    requires { ⌜ lineSize ≤ length (now out) ⌝ }
-{
-    let got = libc::read(STDIN_FILENO, chunk);
+fn answer_once(line: Gathered, keep: &mut [u8], pool: &mut [u8]) -> Round {
+    let mut chunk = [0u8; CHUNK];
+    let got = libc::read(STDIN_FILENO, &mut chunk);
     if got < 0 {
         io::write_all(STDERR_FILENO, b"answers: standard input can't be read\n");
         return Round::Failed;
@@ -69,24 +51,17 @@ fn answer_once(
     if got == 0 {
         return Round::Over;
     }
-    let n = io::count(got, chunk);
-    answer_chunk(&chunk[..n], line, keep, pool, out)
+    let n = io::count(got, &chunk);
+    answer_chunk(&chunk[..n], line, keep, pool)
 }
 
-// Answers the lines that end in a chunk, as many at a time as out holds.
-fn answer_chunk(
-    chunk: &[u8],
-    before: Gathered,
-    keep: &mut [u8],
-    pool: &mut [u8],
-    out: &mut [u8],
-) -> Round
-    requires { ⌜ lineSize ≤ length (now out) ⌝ }
-{
+// Answers the lines that end in a chunk, as many at a time as there is room for.
+fn answer_chunk(chunk: &[u8], before: Gathered, keep: &mut [u8], pool: &mut [u8]) -> Round {
+    let mut out = [0u8; ROOM];
     let mut line = before;
     let mut at = 0;
     while at < chunk.len() {
-        let taken = sessions::take_in(&chunk[at..], line, keep, pool, out);
+        let taken = sessions::take_in(&chunk[at..], line, keep, pool, &mut out);
         let filled = taken.filled;
         if !write_out(&out[..filled]) {
             return Round::Failed;
@@ -98,10 +73,9 @@ fn answer_chunk(
 }
 
 // Answers a last line without a line feed.
-fn answer_last(line: Gathered, keep: &mut [u8], pool: &mut [u8], out: &mut [u8])
-    requires { ⌜ lineSize ≤ length (now out) ⌝ }
-{
-    let filled = sessions::finish(line, keep, pool, out);
+fn answer_last(line: Gathered, keep: &mut [u8], pool: &mut [u8]) {
+    let mut out = [0u8; LINE_SIZE];
+    let filled = sessions::finish(line, keep, pool, &mut out);
     write_out(&out[..filled]);
 }
 
@@ -119,3 +93,6 @@ fn write_out(answers: &[u8]) -> bool {
 
 // bytes of one read: its frames are fewer than one call of the index takes
 const CHUNK: usize = 16384;
+
+// bytes of answers that are written at once: those to all frames of a read
+const ROOM: usize = 17408;

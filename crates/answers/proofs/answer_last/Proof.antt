@@ -6,11 +6,14 @@ use borrow.Author.Needs.{needs}
 use Rattle.answers.proofs.answer_last.Statement.{statement}
 use Rattle.answers.proofs.answer_last.Tie as tie
 
+slice-aggregate-finish : tie.Need-slice-aggregate-finish
+slice-aggregate-finish c = search needs
+
 finish-requires : tie.Need-finish-requires
 finish-requires c κs = search needs
 
-slice-reshare-prefix-write-out : tie.Need-slice-reshare-prefix-write-out
-slice-reshare-prefix-write-out c = search needs
+array-share-prefix-out : tie.Need-array-share-prefix-out
+array-share-prefix-out c = search needs
 
 slice-aggregate-write-out : tie.Need-slice-aggregate-write-out
 slice-aggregate-write-out c = sym (length-take-le _ _ (search needs))
@@ -24,9 +27,6 @@ same-length c = search needs
 same-length-2 : tie.Need-same-length-2
 same-length-2 c = search needs
 
-same-length-3 : tie.Need-same-length-3
-same-length-3 c = search needs
-
 returns : tie.Need-returns
 returns c = search needs
 
@@ -34,11 +34,11 @@ pub answer-last-spec : {M : Type 1} → statement M
 answer-last-spec =
     tie.close
     (tie.spec
+    slice-aggregate-finish
     finish-requires
-    slice-reshare-prefix-write-out
+    array-share-prefix-out
     slice-aggregate-write-out
     write-out-requires
     same-length
     same-length-2
-    same-length-3
     returns)
