@@ -13,7 +13,7 @@ use Rattle.index.proofs.Following.{runs-many, runs-long, runs-sound}
 use Rattle.index.proofs.Outcomes.{Passed, all-passed}
 use Rattle.index.specs.Calls.{Ran}
 use Rattle.index.specs.Runs.{Runs, eights, commandsIn}
-use Rattle.index.specs.declared.Outcome.{Outcome}
+use Rattle.calls.specs.declared.Outcome.{Outcome}
 use Rattle.pool.specs.Sound.{Sound}
 use Rattle.protocol.specs.Frames.{bytesOfAnswer}
 use Rattle.protocol.specs.declared.Answer.{Answer}

@@ -14,7 +14,7 @@ use Rattle.hex.specs.Lines.{frameOf, lineSize}
 use Rattle.hex.specs.declared.read.Reading.{Reading}
 use Rattle.index.specs.Calls.{Formats, Answered, Ran}
 use Rattle.index.specs.Runs.{commandsIn}
-use Rattle.index.specs.declared.Outcome.{Outcome}
+use Rattle.calls.specs.declared.Outcome.{Outcome}
 use Rattle.index.proofs.Following.{runs-sound}
 use Rattle.index.proofs.Outcomes.{one-status, room-by-machine, meaning-by-machine}
 use Rattle.lines.specs.Lines.{Stands, Holds, Finishes, ended, left, linesOf}

@@ -11,7 +11,7 @@ use Rattle.geometry.specs.Limits.{frameSize}
 use Rattle.hex.specs.Lines.{frameOf, lineOf, lineSize}
 use Rattle.hex.specs.declared.read.Reading.{Reading}
 use Rattle.hex.specs.declared.read.Reading.the-variants.{Frame, Bad}
-use Rattle.index.specs.Calls.{CommandsAllowed}
+use Rattle.calls.specs.Tests.{CommandsAllowed}
 use Rattle.lines.specs.Lines.{Stands, ended, left}
 use Rattle.lines.specs.declared.Gathered.{Gathered}
 use Rattle.pool.specs.Meaning.{meaning}
