@@ -3,17 +3,17 @@
 -- Assumes nothing.
 use mathlib.Core.Path.{_≡_, ap, _∙_}
 use mathlib.Core.List.{List, map}
-use mathlib.Core.Logic.{inl, inr}
-use Prim.Native.Nat.{ℕ, _*_, _/_, _≤_}
+use Prim.Native.Nat.{ℕ, _*_, _/_}
 use native.Mathlib.Omega.{arith}
 use lib.ListN.{length, take, drop, length-append, length-drop}
 use lib.Seq.{take-at, drop-at}
 use Rattle.geometry.specs.Limits.{frameSize}
 use Rattle.index.proofs.Cutting.{commands-many}
 use Rattle.index.proofs.Following.{runs-many, runs-long, runs-sound}
-use Rattle.index.specs.Calls.{CommandsAllowed, StatusOfCall, Ran}
+use Rattle.index.proofs.Outcomes.{Passed, all-passed}
+use Rattle.index.specs.Calls.{Ran}
 use Rattle.index.specs.Runs.{Runs, eights, commandsIn}
-use Rattle.index.specs.declared.Outcome.{Outcome}
+use Rattle.calls.specs.declared.Outcome.{Outcome}
 use Rattle.pool.specs.Sound.{Sound}
 use Rattle.protocol.proofs.Bytes.{length-of-answer}
 use Rattle.protocol.specs.Frames.{bytesOfAnswer}
@@ -24,22 +24,9 @@ use Rattle.demands.specs.Accepted.{Frame, framesRun, answerFrames}
 use Rattle.demands.proofs.Eights.{length-of-frames, cut-frames}
 use Rattle.demands.proofs.FramesRun.{IsStep, each-frame}
 
--- what was found in order where 0 is given
-pub record Allowed (p commands room : List ℕ) : Type 0 where
-  pub whole : CommandsAllowed (length commands)
-  pub fits : length commands ≤ length room
-  pub sound : Sound p
-
-pub zero-allowed : (p commands room : List ℕ) (s : ℕ) → s ≡ 0 → StatusOfCall p commands room s → Allowed p commands room
-zero-allowed p commands room s e (inl x) = absurd (omega arith)
-zero-allowed p commands room s e (inr (inl x)) = absurd (omega arith)
-zero-allowed p commands room s e (inr (inr (inl x))) = absurd (omega arith)
-zero-allowed p commands room s e (inr (inr (inr (inl x)))) = absurd (omega arith)
-zero-allowed p commands room s e (inr (inr (inr (inr x)))) = record { whole = x .2; fits = x .3; sound = x .4 }
-
 module _ (p commands room : List ℕ) (r : Outcome) (q filled : List ℕ) (ran : Ran p commands room r q filled) (zero : r .status ≡ 0) where
-  pub allowed : Allowed p commands room
-  allowed = zero-allowed p commands room (r .status) zero (ran .status)
+  passed : Passed p commands room
+  passed = all-passed p commands room (r .status) zero (ran .status)
 
   abbrev pub answers : List Answer
   answers = ran .accepted zero .answers
@@ -51,7 +38,7 @@ module _ (p commands room : List ℕ) (r : Outcome) (q filled : List ℕ) (ran :
   one-each = runs-many (commandsIn commands) p q answers runs ∙ commands-many commands
 
   length-answers : length (joined bytesOfAnswer answers) ≡ length commands
-  length-answers = omega (arith, length-of-frames bytesOfAnswer length-of-answer answers, one-each, allowed .whole)
+  length-answers = omega (arith, length-of-frames bytesOfAnswer length-of-answer answers, one-each, passed .frames)
 
   pub whole-frames : length commands ≡ frameSize * r .count
   whole-frames = omega (arith, length-answers, length-of-frames bytesOfAnswer length-of-answer answers, ran .accepted zero .many)
@@ -72,14 +59,14 @@ module _ (p commands room : List ℕ) (r : Outcome) (q filled : List ℕ) (ran :
   pub length-room : length filled ≡ length room
   length-room =
       ap length (ran .accepted zero .front)
-      ∙ omega (arith, length-append (joined bytesOfAnswer answers) (drop (length commands) room), length-drop (length commands) room, length-answers, allowed .fits)
+      ∙ omega (arith, length-append (joined bytesOfAnswer answers) (drop (length commands) room), length-drop (length commands) room, length-answers, passed .fits)
 
   pub length-pool : length q ≡ length p
   length-pool = runs-long (commandsIn commands) p q answers runs
 
   pub sound-after : Sound q
-  sound-after = runs-sound (commandsIn commands) p q answers (allowed .sound) runs
+  sound-after = runs-sound (commandsIn commands) p q answers (passed .sound) runs
 
   -- what holds of every step from a sound pool holds of each of its frames
   pub each-of-call : (P : Frame → Type 0) → ((f : Frame) → Sound (f .before) → IsStep f → P f) → All P (framesRun ran zero)
-  each-of-call P one = each-frame P one (commandsIn commands) p q answers (allowed .sound) runs
+  each-of-call P one = each-frame P one (commandsIn commands) p q answers (passed .sound) runs

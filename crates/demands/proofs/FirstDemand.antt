@@ -16,7 +16,7 @@ use Rattle.forfochry.proofs.run.Met as RunMet
 use Rattle.index.proofs.Outcomes.{length-cases, same-outcome}
 use Rattle.index.specs.Calls.{Formats, Ran}
 use Rattle.index.specs.Runs.{commandsIn}
-use Rattle.index.specs.declared.Outcome.{Outcome}
+use Rattle.calls.specs.declared.Outcome.{Outcome}
 use Rattle.machine.specs.Machine.{trees}
 use Rattle.pool.specs.Meaning.{meaning}
 use Rattle.protocol.proofs.Replies.{refused-answers-zeros}

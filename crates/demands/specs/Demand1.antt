@@ -24,9 +24,10 @@ use Rattle.forfochry.proofs.run as run
 use Rattle.forfochry.proofs.run.Reads as RunReads
 use Rattle.forfochry.proofs.run.Statement as Run
 use Rattle.index.specs.Alike.{SameOutcome}
-use Rattle.index.specs.Calls.{Formats, StatusOfCall, Ran}
+use Rattle.calls.specs.Tests.{StatusOfCall}
+use Rattle.index.specs.Calls.{Formats, Ran}
 use Rattle.index.specs.Runs.{commandsIn}
-use Rattle.index.specs.declared.Outcome.{Outcome}
+use Rattle.calls.specs.declared.Outcome.{Outcome}
 use Rattle.pool.specs.Formatted.{formatted}
 use Rattle.pool.specs.Sound.{LengthAllowed}
 use Rattle.protocol.specs.Frames.{bytesOfAnswer}

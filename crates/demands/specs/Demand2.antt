@@ -9,7 +9,7 @@ use Prim.Native.Nat.{ℕ, _+_, _-_, _*_, _≤_, _<_}
 use lib.ListN.{length, getD, take}
 use Rattle.geometry.specs.Limits.{marksPerShare}
 use Rattle.index.specs.Calls.{Ran}
-use Rattle.index.specs.declared.Outcome.{Outcome}
+use Rattle.calls.specs.declared.Outcome.{Outcome}
 use Rattle.machine.specs.Machine.{trees}
 use Rattle.pool.specs.Blocks.{entries, leafMarks, link}
 use Rattle.pool.specs.Bytes.{shares}

@@ -10,7 +10,7 @@ use Prim.Native.Nat.{ℕ, _<_}
 use lib.ListN.{getD}
 use Rattle.geometry.specs.Limits.{names}
 use Rattle.index.specs.Calls.{Ran}
-use Rattle.index.specs.declared.Outcome.{Outcome}
+use Rattle.calls.specs.declared.Outcome.{Outcome}
 use Rattle.machine.specs.Machine.{trees}
 use Rattle.machine.specs.OneName.{beside, isTo, isOpening, framesTo}
 use Rattle.pool.specs.Meaning.{meaningOf}

@@ -5,7 +5,7 @@ use mathlib.Core.List.{List}
 use Prim.Native.Nat.{ℕ, _+_, _*_, _/_, _%_, _^_, _<_}
 use native.Mathlib.Omega.{arith}
 use Rattle.index.specs.Calls.{Ran}
-use Rattle.index.specs.declared.Outcome.{Outcome}
+use Rattle.calls.specs.declared.Outcome.{Outcome}
 use Rattle.forfochry.specs.Numbers.{outcomeOf}
 
 pub halves-are : (o : Outcome) → o .count < 2 ^ 32 → outcomeOf (o .status * 4294967296 + o .count) ≡ o

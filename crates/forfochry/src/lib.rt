@@ -4,7 +4,7 @@ ghost use mathlib.Core.Path.{_≡_};
 ghost use Rattle.forfochry.specs.Numbers.{outcomeOf};
 ghost use Rattle.fortran.specs.Mark.{markOf};
 ghost use Rattle.index.specs.Calls.{Formats, Ran};
-use index::Outcome;
+use calls::Outcome;
 
 // what one in the upper half of a number of 64 bits counts
 const UPPER_HALF: u64 = 4294967296;

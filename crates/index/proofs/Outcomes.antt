@@ -8,6 +8,8 @@ use Prim.Native.Nat.{ℕ, _+_, _-_, _%_, _≤_, _<_}
 use native.Mathlib.Nat.{eq-zero-or-pos}
 use native.Mathlib.Omega.{arith}
 use lib.ListN.{length, drop}
+use Rattle.calls.specs.Tests.{CommandsAllowed, StatusOfCall}
+use Rattle.calls.specs.declared.Outcome.{Outcome}
 use Rattle.geometry.specs.Limits.{blockSize, shortestPool, longestPool}
 use Rattle.machine.specs.Machine.{trees}
 use Rattle.pool.specs.Meaning.{meaning}
@@ -16,9 +18,8 @@ use Rattle.protocol.specs.Frames.{bytesOfAnswer}
 use Rattle.protocol.specs.Respond.{answersTo, stateAfter}
 use Rattle.shape.specs.Nested.{joined}
 use Rattle.index.specs.Alike.{SameOutcome}
-use Rattle.index.specs.Calls.{Formats, CommandsAllowed, StatusOfCall, Answered, Ran}
+use Rattle.index.specs.Calls.{Formats, Answered, Ran}
 use Rattle.index.specs.Runs.{commandsIn}
-use Rattle.index.specs.declared.Outcome.{Outcome}
 use Rattle.index.proofs.Following.{runs-answers, runs-meaning}
 
 -- one test: its number where it fails, and else what the tests behind it give

@@ -2,14 +2,14 @@
 -- Assumes nothing.
 use mathlib.Core.Path.{_≡_}
 use mathlib.Core.List.{List, _++_}
-use mathlib.Core.Logic.{_⊎_, _≢_}
-use Prim.Native.Nat.{ℕ, _%_, _≤_}
+use mathlib.Core.Logic.{_≢_}
+use Prim.Native.Nat.{ℕ}
 use lib.ListN.{length, drop}
-use Rattle.geometry.specs.Limits.{frameSize, longestCommands}
+use Rattle.calls.specs.Tests.{StatusOfCall}
+use Rattle.calls.specs.declared.Outcome.{Outcome}
 use Rattle.index.specs.Runs.{Runs, commandsIn}
-use Rattle.index.specs.declared.Outcome.{Outcome}
 use Rattle.pool.specs.Formatted.{formatted}
-use Rattle.pool.specs.Sound.{LengthAllowed, Sound}
+use Rattle.pool.specs.Sound.{LengthAllowed}
 use Rattle.protocol.specs.Frames.{bytesOfAnswer}
 use Rattle.protocol.specs.declared.Answer.{Answer}
 use Rattle.shape.specs.Nested.{joined}
@@ -18,20 +18,6 @@ use Rattle.shape.specs.Nested.{joined}
 pub record Formats (p : List ℕ) (status : ℕ) (q : List ℕ) : Type 0 where
   pub allowed : LengthAllowed (length p) → (status ≡ 0) × (q ≡ formatted (length p))
   pub refused : (LengthAllowed (length p) → ⊥) → (status ≡ 101) × (q ≡ p)
-
--- a length that commands may have: whole frames, and not too many
-pub record CommandsAllowed (bytes : ℕ) : Type 0 where
-  pub whole : bytes % frameSize ≡ 0
-  pub most : bytes ≤ longestCommands
-
--- the table of a call's statuses: the first reason that applies gives the number, and 0 is given where none does
-abbrev pub StatusOfCall : List ℕ → List ℕ → List ℕ → ℕ → Type 0
-StatusOfCall p commands room status =
-    ((status ≡ 101) × (LengthAllowed (length p) → ⊥))
-    ⊎ ((status ≡ 102) × LengthAllowed (length p) × (CommandsAllowed (length commands) → ⊥))
-    ⊎ ((status ≡ 103) × LengthAllowed (length p) × CommandsAllowed (length commands) × (length commands ≤ length room → ⊥))
-    ⊎ ((status ≡ 104) × LengthAllowed (length p) × CommandsAllowed (length commands) × (length commands ≤ length room) × (Sound p → ⊥))
-    ⊎ ((status ≡ 0) × LengthAllowed (length p) × CommandsAllowed (length commands) × (length commands ≤ length room) × Sound p)
 
 -- the frames were run in order, and their answers stand at the front of the room, whose rest is as it was
 pub record Answered (p commands room q filled : List ℕ) (count : ℕ) : Type 0 where

@@ -1,19 +1,12 @@
--- The two halves of a call: its tests, and what the frames of an accepted one find and leave.
+-- What the frames of an accepted call find and leave.
 -- Assumes nothing.
-use mathlib.Core.Path.{_≡_}
 use mathlib.Core.List.{List}
 use Prim.Native.Nat.{ℕ, _/_, _≤_}
 use lib.ListN.{length}
+use Rattle.calls.specs.Tests.{CommandsAllowed}
 use Rattle.frames.specs.Steps.{Ready}
-use Rattle.geometry.specs.Limits.{frameSize, mostShares}
-use Rattle.index.specs.Calls.{CommandsAllowed, StatusOfCall, Answered}
-use Rattle.sound.specs.Maps.{MapOf}
-
--- the call's status; where it is 0, the map says of each block of the pool who holds it
-pub record Judged (p commands room : List ℕ) (status : ℕ) (map : List ℕ) : Type 0 where
-  pub tested : StatusOfCall p commands room status
-  pub long : status ≡ 0 → length map ≡ mostShares
-  pub holders : status ≡ 0 → MapOf p map
+use Rattle.geometry.specs.Limits.{frameSize}
+use Rattle.index.specs.Calls.{Answered}
 
 -- a sound pool with its map, commands that are whole frames, and room for an answer to each
 pub record FramesReady (p m commands room : List ℕ) : Type 0 where

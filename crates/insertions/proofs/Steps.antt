@@ -200,10 +200,12 @@ no-frame-put line lines out filled room over =
 
 module _ (before : Progress) (keep keep' out out' : List ℕ) (last : Gathered) (finishes : Finishes (before .line) keep keep' last) where
   -- the input ends with a line feed, or is empty
-  pub ends-whole : last .length ≡ 0 → Ends before keep out out 0
+  pub ends-whole : last .length ≡ 0 → Ends before keep keep' out out 0
   unfolding framesOf linesOf
   ends-whole none =
       record {
+        same = finishes .same;
+        long = refl;
         room = omega arith;
         frames =
             λ input earlier f.
@@ -215,10 +217,12 @@ module _ (before : Progress) (keep keep' out out' : List ℕ) (last : Gathered) 
 
   -- a last line has no line feed
   pub ends-open : (front : List ℕ) (result : ℕ) → (last .length ≡ 0 → ⊥) → front ≡ take (last .kept) keep' → PutsFrame front (before .lines) out out' 0 result
-      → Ends before keep out out' result
+      → Ends before keep keep' out out' result
   unfolding framesOf linesOf
   ends-open front result some is-front put =
       record {
+        same = finishes .same;
+        long = put .long;
         room = put .room;
         frames =
             λ input earlier f.

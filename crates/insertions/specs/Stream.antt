@@ -46,6 +46,8 @@ pub record PutsFrame (line : List ℕ) (lines : ℕ) (out out' : List ℕ) (fill
   pub frame : take result out' ≡ take filled out ++ frameAfter lines line
 
 -- the input is over, and the rest of its frames stands at the front of the output
-pub record Ends (before : Progress) (keep out out' : List ℕ) (result : ℕ) : Type 0 where
+pub record Ends (before : Progress) (keep keep' out out' : List ℕ) (result : ℕ) : Type 0 where
+  pub same : length keep' ≡ length keep
+  pub long : length out' ≡ length out
   pub room : result ≤ length out'
   pub frames : (input earlier : List ℕ) → Follows input earlier before keep out 0 → framesOf input ≡ earlier ++ take result out'

@@ -112,7 +112,7 @@ fn take_line(
 // The file is over: puts the frame of its last line, if that has no line feed but a byte, at the front of out.
 pub fn finish(before: Progress, keep: &mut [u8], out: &mut [u8]) -> usize
     requires { ⌜ lineSize ≤ length (now out) ⌝ }
-    ensures { λ r. ⌜ Ends before (now (keep .entry)) (now (out .entry)) (now (out .exit)) r ⌝ }
+    ensures { λ r. ⌜ Ends before (now (keep .entry)) (now (keep .exit)) (now (out .entry)) (now (out .exit)) r ⌝ }
 {
     let line = lines::finish(before.line, keep);
     if line.length == 0 {

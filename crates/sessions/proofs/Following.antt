@@ -20,7 +20,7 @@ use Rattle.hex.specs.Lines.{frameOf, lineSize}
 use Rattle.hex.specs.declared.read.Reading.{Reading}
 use Rattle.index.specs.Calls.{Formats, Answered, Ran}
 use Rattle.index.specs.Runs.{commandsIn}
-use Rattle.index.specs.declared.Outcome.{Outcome}
+use Rattle.calls.specs.declared.Outcome.{Outcome}
 use Rattle.index.proofs.Following.{runs-sound, runs-long}
 use Rattle.index.proofs.Outcomes.{length-cases, all-passed, one-status, room-by-machine, meaning-by-machine}
 use Rattle.lines.specs.Lines.{Stands, lineFeed, trims, trim, ended, left, linesOf}

@@ -8,7 +8,7 @@ use Rattle.batches.specs.Answers.{lineOfAnswer}
 use Rattle.batches.specs.Batch.{draftOf, bytesOf, keptIn}
 use Rattle.geometry.specs.Limits.{frameSize}
 use Rattle.hex.specs.Lines.{frameOf, lineSize}
-use Rattle.index.specs.Calls.{CommandsAllowed}
+use Rattle.calls.specs.Tests.{CommandsAllowed}
 use Rattle.pool.specs.Meaning.{meaning}
 use Rattle.pool.specs.Sound.{Sound}
 use Rattle.shape.specs.Nested.{joined}

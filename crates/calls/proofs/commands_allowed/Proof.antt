@@ -1,8 +1,8 @@
--- `index::commands_allowed` meets its contract, test by test.
+-- `calls::commands_allowed` meets its contract, test by test.
 -- Assumes nothing.
-use Rattle.index.proofs.Calling.{part-of-a-frame, at-most-all}
-use Rattle.index.proofs.commands_allowed.Statement.{statement}
-use Rattle.index.proofs.commands_allowed.Tie as tie
+use Rattle.calls.proofs.Testing.{part-of-a-frame, at-most-all}
+use Rattle.calls.proofs.commands_allowed.Statement.{statement}
+use Rattle.calls.proofs.commands_allowed.Tie as tie
 
 returns : tie.Need-returns
 returns c = search part-of-a-frame

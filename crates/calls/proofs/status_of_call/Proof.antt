@@ -1,10 +1,10 @@
--- `index::status_of_call` meets its contract, test by test.
+-- `calls::status_of_call` meets its contract, test by test.
 -- Assumes nothing.
 use borrow.Author.Needs.{needs}
 use borrow.Author.Tests.{not-true, not-false}
-use Rattle.index.proofs.Calling.{refuse-101, refuse-102, refuse-103, refuse-104, accept}
-use Rattle.index.proofs.status_of_call.Statement.{statement}
-use Rattle.index.proofs.status_of_call.Tie as tie
+use Rattle.calls.proofs.Testing.{refuse-101, refuse-102, refuse-103, refuse-104, accept}
+use Rattle.calls.proofs.status_of_call.Statement.{statement}
+use Rattle.calls.proofs.status_of_call.Tie as tie
 
 length-allowed-requires : tie.Need-length-allowed-requires
 length-allowed-requires c κs = search needs
