@@ -6,7 +6,7 @@ use mathlib.Core.Bool.{Bool, true, false, not}
 use mathlib.Core.List.{List}
 use Prim.Native.Nat.{ℕ, _+_, _≤_, _<_}
 use native.Mathlib.Omega.{arith}
-use lib.ListN.{length, getD}
+use lib.ListN.{getD}
 use Rattle.geometry.specs.Layout.{mostBranch}
 use Rattle.geometry.specs.Limits.{mostAlphabet}
 use Rattle.pool.specs.Blocks.{marksBelow, countBelow}

@@ -1,11 +1,10 @@
 // The insert frames of a Fortran file that comes in chunks: one line of digits for each line of the file, its mark into name 0.
-ghost use mathlib.Core.List.{List, [], _++_};
+ghost use mathlib.Core.List.{[]};
 ghost use mathlib.Core.Path.{_≡_};
-ghost use Prim.Native.Nat.{ℕ, _+_, _≤_, min};
+ghost use Prim.Native.Nat.{_+_, _≤_, min};
 ghost use lib.ListN.{length};
 ghost use Rattle.geometry.specs.Limits.{mostMarks};
 ghost use Rattle.hex.specs.Lines.{lineSize};
-ghost use Rattle.insertions.specs.Frames.{framesOf};
 ghost use Rattle.insertions.specs.Stream.{Starts, PutsFrame, GoesOn, Ends};
 use fortran::first_columns;
 use fortran::mark;

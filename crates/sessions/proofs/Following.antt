@@ -40,7 +40,7 @@ use Rattle.shape.specs.Trees.{Tree}
 use Rattle.shape.proofs.Folds.{joined-append}
 use Rattle.sessions.specs.Call.{Asks, Answers}
 use Rattle.sessions.specs.Session.{responseTo, answersToLines, stateAfterLines, atStart, writtenFor, sessionOf}
-use Rattle.sessions.specs.Stream.{readFrom, Follows, Over, Starts, TakesIn, Ends}
+use Rattle.sessions.specs.Stream.{readFrom, Follows, Starts, TakesIn, Ends}
 use Rattle.sessions.specs.declared.Taken.{Taken}
 use Rattle.sessions.proofs.Called.{commands-in-batch, state-after-lines, completed-drafts}
 

@@ -2,7 +2,6 @@
 -- `start - at` marks on from what is sought in the rest, of which `left` are still to be met.
 -- Assumes nothing.
 use borrow.Author.Needs.{needs}
-use mathlib.Core.Path.{_≡_}
 use Prim.Native.Nat.{_+_, _-_, _≤_}
 use native.Mathlib.Omega.{arith}
 use lib.ListN.{take, drop, length-take}

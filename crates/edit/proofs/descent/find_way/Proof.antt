@@ -1,7 +1,6 @@
 -- `edit::descent::find_way` meets its contract. The loop's invariant: the way is found down to the level that it has come to.
 -- Assumes nothing.
 use borrow.Author.Needs.{needs}
-use native.Mathlib.Omega.{arith}
 use Rattle.edit.proofs.WaysDown.{Found, found-start, found-down, found-all, found-choice, found-inside, found-low, found-past}
 use Rattle.edit.proofs.descent.find_way.Statement.{statement}
 use Rattle.edit.proofs.descent.find_way.Tie as tie

@@ -2,7 +2,6 @@
 -- Assumes nothing.
 use borrow.Author.Needs.{needs}
 use Prim.Native.Nat.{_-_}
-use native.Mathlib.Omega.{arith}
 use Rattle.edit.specs.Ways.{Counted}
 use Rattle.edit.proofs.WaysUp.{counted-start, count-ready, next-counted, all-counted}
 use Rattle.edit.proofs.insert.count_up.Statement.{statement}

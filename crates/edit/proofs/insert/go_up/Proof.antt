@@ -2,7 +2,6 @@
 -- Assumes nothing.
 use borrow.Author.Needs.{needs}
 use Prim.Native.Nat.{_-_}
-use native.Mathlib.Omega.{arith}
 use Rattle.edit.specs.Ways.{Climbed}
 use Rattle.edit.proofs.WaysUp.{climbed-start, split-ready, split-climbed, all-climbed, counter, rest-climbed}
 use Rattle.edit.proofs.insert.go_up.Statement.{statement}

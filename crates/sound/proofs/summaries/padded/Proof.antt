@@ -10,8 +10,6 @@ use Rattle.pool.specs.Blocks.{leafMarks}
 use Rattle.sound.proofs.Paddings.{PaddedTo, padded-none, low-byte-fits, next-mark, next-behind, padded-leaf}
 use Rattle.sound.proofs.summaries.padded.Statement.{statement}
 use Rattle.sound.proofs.summaries.padded.Tie as tie
-use Rattle.sound.proofs.summaries.padded.Reads as reads
-use Rattle.sound.proofs.summaries.padded.Lts as lts
 
 abbrev Inv-loop : tie.InvT-loop
 Inv-loop pool leaf at behind marks₀ left₀ i₀ marks left i = (i ≤ blockSize) × (left ≡ blockSize - i) × (length marks ≡ blockSize) × PaddedTo (leafMarks pool leaf) marks i
