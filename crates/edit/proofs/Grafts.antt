@@ -19,10 +19,10 @@ use Rattle.pool.specs.Words.{wordLimit}
 use Rattle.blocks.proofs.Branches.{entries-length}
 use Rattle.blocks.specs.Contents.{entryList, BranchAt}
 use Rattle.entries.specs.declared.Summary.{Summary}
+use Rattle.holders.specs.Maps.{isFree, Taken}
+use Rattle.holders.proofs.Takes.{taken-one, taken-free, taken-blocks, taken-entered, entered-none}
 use Rattle.edit.specs.Entries.{putAt}
 use Rattle.edit.specs.Grafts.{EntryPut, BranchSplit, GraftReady, Regrouped, Grafted}
-use Rattle.edit.specs.Maps.{isFree, Taken}
-use Rattle.edit.proofs.Maps.{taken-one, taken-free, taken-blocks, taken-entered, entered-none}
 
 pub length-putAt : {A : Type 0} (k : ℕ) (x : A) (xs : List A) → k ≤ length xs → length (putAt k x xs) ≡ length xs + 1
 length-putAt k x xs place = omega (arith, length-append (take k xs) (x ∷ drop k xs), length-take k xs, length-drop k xs)
@@ -60,7 +60,7 @@ module _ (p m : List ℕ) (b k child holder : ℕ) (summary : Summary) (ready : 
     new-inside = omega (arith, taken .inside, ready .map .blocks)
 
     pub new-other : b ≡ new → ⊥
-    new-other e = omega (arith, ready .held, taken-free holder new m n (ready .map .named) taken, ap (isFree m) e)
+    new-other e = omega (arith, ready .held, taken-free holder new m n (ready .named) taken, ap (isFree m) e)
 
     pub split-ready : mostBranch ≤ entries p b
         → ((b < shares p) × (entries p b ≡ mostBranch)) × (((new < shares p) × (b ≡ new → ⊥)) × ((k ≤ mostBranch) × (child < wordLimit)))
@@ -71,7 +71,7 @@ module _ (p m : List ℕ) (b k child holder : ℕ) (summary : Summary) (ready : 
         → Grafted b k child holder summary (record { split = true; new = new }) p q m n
     unfolding count
     graft-parted q full split =
-        let named : 0 < holder = ready .map .named in
+        let named : 0 < holder = ready .named in
         let place : k ≤ length (entryList p b) = omega (arith, ready .place, entries-length p b) in
         record {
           entry = split .entry;

@@ -29,9 +29,9 @@ use Rattle.pool.specs.Trees.{pathAt}
 use Rattle.blocks.specs.Contents.{LeafAt}
 use Rattle.blocks.specs.Leaves.{MarkInserted}
 use Rattle.sequence.proofs.Items.{all-left, all-right}
+use Rattle.holders.specs.Maps.{freeIn, Taken}
+use Rattle.holders.proofs.Takes.{taken-one, taken-free, taken-blocks, taken-entered, entered-none}
 use Rattle.edit.specs.Inserts.{InsertReady, Inserted, LeafSplit}
-use Rattle.edit.specs.Maps.{freeIn, Taken}
-use Rattle.edit.proofs.Maps.{taken-one, taken-free, taken-blocks, taken-entered, entered-none}
 
 -- the path of a leaf is its block
 leaf-path : (p : List ℕ) (i b : ℕ) → count b (pathAt p zero i b) ≡ 1
@@ -94,7 +94,7 @@ module _ (b i c holder : ℕ) (p m : List ℕ) (ready : InsertReady p m 0 b i c 
 
     pub new-other : b ≡ new → ⊥
     unfolding count
-    new-other e = omega (arith, ready .agrees new, taken-free holder new m n (ready .map .named) taken, isMark-same new b e)
+    new-other e = omega (arith, ready .agrees new, taken-free holder new m n (ready .named) taken, isMark-same new b e)
 
     pub split-ready : mostLeaf ≤ length (leafMarks p b)
         → (LeafAt p b × (length (leafMarks p b) ≡ mostLeaf)) × (((new < shares p) × (b ≡ new → ⊥)) × ((1 ≤ i) × (i ≤ mostLeaf + 1)))
@@ -106,7 +106,7 @@ module _ (b i c holder : ℕ) (p m : List ℕ) (ready : InsertReady p m 0 b i c 
     pub leaf-parted : (q : List ℕ) → mostLeaf ≤ length (leafMarks p b) → LeafSplit b new i c p q → Inserted 0 b i c holder (record { split = true; new = new }) p q m n
     unfolding count
     leaf-parted q full split =
-        let named : 0 < holder = ready .map .named in
+        let named : 0 < holder = ready .named in
         let all : AllBelow mostAlphabet (joined (λ x. x) (leafMarks q b ∷ leafMarks q new ∷ [])) =
         subst (AllBelow mostAlphabet) (sym (ap (joined (λ x. x)) (split .marks) ∙ insertNode-marks oneToAByte c zero i (leafMarks p b)))
         (allBelow-insert mostAlphabet c i (leafMarks p b) (ready .symbol) (ready .below)) in

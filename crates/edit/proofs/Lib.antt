@@ -1,4 +1,3 @@
-pub mod Maps
 pub mod LeafSplits
 pub mod LeafInserts
 pub mod SameEntries

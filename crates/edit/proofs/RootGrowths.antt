@@ -20,13 +20,13 @@ use Rattle.blocks.specs.Contents.{linkIn, entryBytes, entryList}
 use Rattle.blocks.specs.Moves.{Emptied}
 use Rattle.entries.specs.Summaries.{SummaryOf, SmallSums}
 use Rattle.entries.specs.declared.Summary.{Summary}
+use Rattle.holders.specs.Maps.{isFree, Taken}
+use Rattle.holders.proofs.Takes.{taken-one, taken-free, taken-blocks, taken-entered}
 use Rattle.edit.specs.Entries.{putAt}
 use Rattle.edit.specs.Grafts.{EntryPut}
-use Rattle.edit.specs.Maps.{isFree, Taken}
 use Rattle.edit.specs.Roots.{PairWritten, RootReady, RootGrown}
 use Rattle.edit.proofs.GoodEntries.{GoodEntry, shapeIn, blocksIn, good-below, shape-entries, blocks-entries}
 use Rattle.edit.proofs.KeptLists.{KeptList, kept-list}
-use Rattle.edit.proofs.Maps.{taken-one, taken-free, taken-blocks, taken-entered}
 use Rattle.edit.proofs.TakeUps.{holds-true, summary-ready}
 
 module _ (b left right : ℕ) (first second : Summary) (p q : List ℕ) (inside : b < shares p) (empty : Emptied b p q) where
@@ -69,7 +69,7 @@ module _ (p m : List ℕ) (h left right holder : ℕ) (ready : RootReady p m h l
       trees = sym (joined-map (blocksAt p h) linkIn (pair .one ∷ pair .two ∷ [])) ∙ ap (joined (blocksAt p h)) links
 
       free : isFree m root ≡ 1
-      free = taken-free holder root m n (ready .map .named) taken
+      free = taken-free holder root m n (ready .named) taken
 
       kept : KeptList p q h (pair .one ∷ pair .two ∷ [])
       kept =
@@ -81,7 +81,7 @@ module _ (p m : List ℕ) (h left right holder : ℕ) (ready : RootReady p m h l
       pub root-grown : RootGrown h left right holder root p q m n
       unfolding count
       root-grown =
-          let named : 0 < holder = ready .map .named in
+          let named : 0 < holder = ready .named in
           let two : entries q root ≡ 2 = sym (entries-length q root) ∙ ap length (pair .list) in
           record {
             shape =

@@ -28,6 +28,7 @@ use Rattle.entries.proofs.Summaries.{small-sums}
 use Rattle.entries.specs.Entries.{PutEntry, AddMark}
 use Rattle.entries.specs.Summaries.{SummaryOf, SmallSums}
 use Rattle.entries.specs.declared.Summary.{Summary}
+use Rattle.holders.proofs.Maps.{fits-after}
 use Rattle.edit.specs.Entries.{putAt, Holds, TrueEntry, SoundChild}
 use Rattle.edit.specs.Grafts.{GraftReady, Regrouped, Grafted, TakeUpReady, TakenUp}
 use Rattle.edit.specs.Inserts.{roots}
@@ -136,7 +137,8 @@ module _ (p m : List ℕ) (h b k child c holder : ℕ) (g : Grown) (ready : Take
       pub graft-ready : GraftReady q m b (k + 1) (g .new) holder
       graft-ready =
           record {
-            map = record { blocks = omega (arith, ready .map .blocks, put .same .long); named = ready .map .named; longest = omega (arith, ready .map .longest, put .same .long) };
+            map = fits-after p q m m (put .same .long) refl (ready .map);
+            named = ready .named;
             branch = record { inside = omega (arith, ready .branch .inside, put .same .long); fits = omega (arith, many, ready .branch .fits) };
             form = form-kept b k (put .same) place-low ∙ ready .form;
             held = ready .held;

@@ -19,9 +19,9 @@ use Rattle.pool.specs.Trees.{shapeAt}
 use Rattle.pool.specs.Words.{wordLimit}
 use Rattle.blocks.specs.Contents.{linkIn, entryList, BranchAt}
 use Rattle.entries.specs.declared.Summary.{Summary}
+use Rattle.holders.specs.Maps.{MapFits, isFree, freeIn, Entered}
 use Rattle.edit.specs.Entries.{putAt, Holds, TrueEntry, SoundChild}
-use Rattle.edit.specs.Inserts.{roots, MapFor}
-use Rattle.edit.specs.Maps.{isFree, freeIn, Entered}
+use Rattle.edit.specs.Inserts.{roots}
 use Rattle.edit.specs.declared.Grown.{Grown}
 
 -- one entry more in a branch with room, number k
@@ -44,7 +44,8 @@ pub record BranchSplit (b new k child : ℕ) (summary : Summary) (p q : List ℕ
 
 -- a branch that can take one entry more: it has room, or there is a free block
 pub record GraftReady (p m : List ℕ) (b k child holder : ℕ) : Type 0 where
-  pub map : MapFor p m holder
+  pub map : MapFits p m
+  pub named : 0 < holder
   pub branch : BranchAt p b
   pub form : formOf p b ≡ formMarks
   pub held : isFree m b ≡ 0
@@ -72,7 +73,8 @@ pub record Grafted (b k child holder : ℕ) (summary : Summary) (r : Grown) (p q
 
 -- entry k of a branch stands for a child that an edit made this of; together its pieces have one mark more than the entry says, a c
 pub record TakeUpReady (p m : List ℕ) (h b k child c holder : ℕ) (g : Grown) : Type 0 where
-  pub map : MapFor p m holder
+  pub map : MapFits p m
+  pub named : 0 < holder
   pub branch : BranchAt p b
   pub form : formOf p b ≡ formMarks
   pub held : isFree m b ≡ 0

@@ -5,9 +5,8 @@ use mathlib.Core.Bool.{cond}
 use mathlib.Core.List.{List, [], _∷_, map}
 use mathlib.Core.Logic.{_⊎_}
 use Prim.Native.Nat.{ℕ, zero, _+_, _-_, _≤_, _<_}
-use lib.ListN.{length}
 use Rattle.geometry.specs.Layout.{formMarks, leastLeaf}
-use Rattle.geometry.specs.Limits.{longestPool, mostAlphabet}
+use Rattle.geometry.specs.Limits.{mostAlphabet}
 use Rattle.sequence.specs.Definition1.{count}
 use Rattle.sequence.specs.Items.{All}
 use Rattle.shape.specs.Blocks.{splits}
@@ -16,12 +15,11 @@ use Rattle.shape.specs.Nested.{joined, marksIn}
 use Rattle.shape.specs.Sizes.{oneToAByte, least}
 use Rattle.shape.specs.Trees.{insertNode}
 use Rattle.pool.specs.Blocks.{formOf, entries, leafMarks}
-use Rattle.pool.specs.Bytes.{shares}
 use Rattle.pool.specs.Changes.{Only}
 use Rattle.pool.specs.Sound.{SoundBlock, SoundBelow}
 use Rattle.pool.specs.Trees.{shapeAt, blocksAt, pathAt}
 use Rattle.pool.specs.Words.{wordLimit}
-use Rattle.edit.specs.Maps.{isFree, freeIn, Entered, Agrees}
+use Rattle.holders.specs.Maps.{MapFits, isFree, freeIn, Agrees, Entered}
 use Rattle.edit.specs.declared.Grown.{Grown}
 
 -- the roots of the trees that an edit of block b leaves: b, and the new block behind it where b was split
@@ -32,16 +30,11 @@ roots r b = cond (r .split) (b ∷ r .new ∷ []) (b ∷ [])
 abbrev pub leastAfter : Grown → ℕ → ℕ → ℕ
 leastAfter r h before = cond (r .split) (least oneToAByte h) before
 
--- a map that has a byte for each block of the pool, and a holder to enter in it
-pub record MapFor (p m : List ℕ) (holder : ℕ) : Type 0 where
-  pub blocks : length m ≡ shares p
-  pub named : 0 < holder
-  pub longest : length p ≤ longestPool
-
 -- a mark c can be put in at place i of the tree at block b: the tree is sound and the map has its blocks as held, the place is there,
 -- and there are as many free blocks as nodes will split
 pub record InsertReady (p m : List ℕ) (h b i c holder : ℕ) : Type 0 where
-  pub map : MapFor p m holder
+  pub map : MapFits p m
+  pub named : 0 < holder
   pub block : SoundBlock p (rootLeast h) h b
   pub below : SoundBelow p mostAlphabet h b
   pub agrees : Agrees m (blocksAt p h b)

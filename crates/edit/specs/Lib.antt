@@ -1,4 +1,3 @@
-pub mod Maps
 pub mod Inserts
 pub mod Entries
 pub mod Grafts

@@ -14,9 +14,8 @@ use Rattle.pool.specs.Trees.{shapeAt, blocksAt}
 use Rattle.pool.specs.Words.{wordLimit}
 use Rattle.blocks.specs.Contents.{entryList}
 use Rattle.entries.specs.declared.Summary.{Summary}
+use Rattle.holders.specs.Maps.{MapFits, isFree, freeIn, Agrees, Entered}
 use Rattle.edit.specs.Entries.{Holds, SoundChild}
-use Rattle.edit.specs.Inserts.{MapFor}
-use Rattle.edit.specs.Maps.{isFree, freeIn, Entered, Agrees}
 
 -- the block is a branch with these two entries
 pub record PairWritten (b left right : ℕ) (first second : Summary) (p q : List ℕ) : Type 0 where
@@ -30,7 +29,8 @@ pub record PairWritten (b left right : ℕ) (first second : Summary) (p q : List
 
 -- two trees of level h can be put under a new root
 pub record RootReady (p m : List ℕ) (h left right holder : ℕ) : Type 0 where
-  pub map : MapFor p m holder
+  pub map : MapFits p m
+  pub named : 0 < holder
   pub leftSound : SoundChild p h left
   pub rightSound : SoundChild p h right
   pub agrees : Agrees m (joined (blocksAt p h) (left ∷ right ∷ []))

@@ -8,7 +8,6 @@ ghost use Rattle.pool.specs.Words.{wordLimit};
 ghost use Rattle.blocks.specs.Contents.{BranchAt};
 ghost use Rattle.edit.specs.Grafts.{EntryPut, BranchSplit, GraftReady, Grafted, halved, SplitReady, TakenUp};
 use crate::Grown;
-use crate::map::take_block;
 use blocks::branch::cut_branch;
 use blocks::branch::open_entry;
 use entries::Summary;
@@ -16,6 +15,7 @@ use entries::entry_count;
 use entries::set_entry;
 use entries::summary_of;
 use geometry::Record;
+use holders::take_block;
 
 // Takes up that an insert split child k of the branch b: there are two entries in its place. The level is the child's.
 pub fn take_up(

@@ -8,11 +8,11 @@ ghost use Rattle.pool.specs.Bytes.{shares};
 ghost use Rattle.blocks.specs.Contents.{LeafAt};
 ghost use Rattle.edit.specs.Inserts.{InsertReady, Inserted, LeafSplit};
 use crate::Grown;
-use crate::map::take_block;
 use blocks::leaf::cut_leaf;
 use blocks::leaf::insert_mark;
 use blocks::leaf::size;
 use geometry::Record;
+use holders::take_block;
 
 // Puts c in at place i of the leaf b.
 pub fn insert_in_leaf(

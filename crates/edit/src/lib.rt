@@ -3,13 +3,11 @@ mod branches;
 mod descent;
 mod insert;
 mod leaves;
-mod map;
 mod root;
 pub mod seat;
 mod tree;
 
 pub use insert::insert_in;
-pub use map::take_block;
 pub use root::grow_root;
 pub use tree::Rooted;
 pub use tree::insert_in_tree;

@@ -4,10 +4,10 @@ ghost use Rattle.pool.specs.Bytes.{shares};
 ghost use Rattle.pool.specs.Words.{wordLimit};
 ghost use Rattle.edit.specs.Roots.{PairWritten, RootReady, RootGrown};
 use crate::branches::put_entry;
-use crate::map::take_block;
 use blocks::empty_block;
 use entries::Summary;
 use entries::summary_of;
+use holders::take_block;
 
 // Takes a block for a root above two blocks of a level.
 pub fn grow_root(

@@ -1,10 +1,10 @@
--- `edit::map::take_block` meets its contract: the place of the first 0 is that of a free block.
+-- `holders::take_block` meets its contract: the place of the first 0 is that of a free block.
 -- Assumes nothing.
 use native.Mathlib.Omega.{arith}
 use borrow.Author.Needs.{needs}
-use Rattle.edit.proofs.Maps.{found-place, found-taken}
-use Rattle.edit.proofs.map.take_block.Statement.{statement}
-use Rattle.edit.proofs.map.take_block.Tie as tie
+use Rattle.holders.proofs.Takes.{found-place, found-taken}
+use Rattle.holders.proofs.take_block.Statement.{statement}
+use Rattle.holders.proofs.take_block.Tie as tie
 
 find-requires : tie.Need-find-requires
 find-requires c κs = search needs

@@ -10,7 +10,7 @@ use lib.Seq.{getD-set-same, getD-set-other}
 use Rattle.sequence.specs.Definition1.{isMark, count, access, select}
 use Rattle.sequence.proofs.Counts.{isMark-same, isMark-other, isMark-cases, isMark-le-one}
 use Rattle.sequence.proofs.Selects.{select-le-length, select-positive, access-select}
-use Rattle.edit.specs.Maps.{isFree, freeIn, Taken, Entered}
+use Rattle.holders.specs.Maps.{isFree, freeIn, Taken, Entered}
 
 -- the first free block is found
 pub found-place : (m : List ℕ) → 1 ≤ freeIn m → 1 ≤ select 0 m 1

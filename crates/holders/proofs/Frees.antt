@@ -9,8 +9,7 @@ use lib.ListN.{length, getD, length-set}
 use lib.Seq.{getD-set-same, getD-set-other}
 use Rattle.sequence.proofs.Counts.{isMark-same, isMark-cases, isMark-le-one}
 use Rattle.sequence.specs.Definition1.{isMark}
-use Rattle.edit.specs.Maps.{isFree}
-use Rattle.removal.specs.Frees.{GivenBack, Freed}
+use Rattle.holders.specs.Maps.{isFree, GivenBack, Freed}
 
 module _ (block : ℕ) (m n : List ℕ) (given : GivenBack block m n) where
   at-block : getD n block 0 ≡ 0
