@@ -25,7 +25,7 @@ use Rattle.pool.specs.Blocks.{entries, link, marksBelow}
 use Rattle.pool.specs.Bytes.{shares}
 use Rattle.pool.specs.Sound.{SoundBlock}
 use Rattle.pool.specs.Trees.{shapeAt, blocksAt, pathAt}
-use Rattle.edit.specs.Inserts.{InsertReady}
+use Rattle.splits.specs.Inserts.{InsertReady}
 use Rattle.entries.proofs.SeatedChildren.{seated-takes, seated-total, seated-path}
 use Rattle.entries.specs.Seats.{Seated}
 use Rattle.entries.specs.declared.Seat.{Seat}

@@ -38,14 +38,14 @@ use Rattle.pool.specs.Trees.{shapeAt, blocksAt, pathAt}
 use Rattle.holders.specs.Maps.{isFree, freeIn}
 use Rattle.holders.proofs.Maps.{fits-after}
 use Rattle.holders.proofs.Takes.{entered-falls}
-use Rattle.edit.specs.Entries.{SoundChild}
-use Rattle.edit.specs.Grafts.{TakeUpReady}
-use Rattle.edit.specs.Inserts.{roots, leastAfter, InsertReady, Inserted}
+use Rattle.splits.specs.Entries.{SoundChild}
+use Rattle.splits.specs.Grafts.{TakeUpReady}
+use Rattle.splits.specs.Inserts.{roots, leastAfter, InsertReady, Inserted}
+use Rattle.splits.specs.declared.Grown.{Grown}
+use Rattle.splits.proofs.Pieces.{room-step}
 use Rattle.entries.specs.Seats.{Seated}
-use Rattle.edit.specs.declared.Grown.{Grown}
 use Rattle.entries.specs.declared.Seat.{Seat}
 use Rattle.edit.proofs.Descents.{child-takes, before-total, child-short, around, child-splits, child-blocks, child-ready}
-use Rattle.edit.proofs.Pieces.{room-step}
 
 -- how many roots there are
 pub length-roots : (g : Grown) (b : ℕ) → length (roots g b) ≡ suc (cond (g .split) 1 0)

@@ -23,13 +23,13 @@ use Rattle.pool.specs.Trees.{shapeAt, blocksAt, pathAt}
 use Rattle.holders.specs.Maps.{isFree, Agrees}
 use Rattle.holders.proofs.Maps.{fits-after}
 use Rattle.holders.proofs.Takes.{entered-then, entered-falls}
-use Rattle.edit.specs.Inserts.{Inserted}
-use Rattle.edit.specs.Roots.{RootReady, RootGrown}
+use Rattle.splits.specs.Inserts.{Inserted}
+use Rattle.splits.specs.Roots.{RootReady, RootGrown}
+use Rattle.splits.specs.declared.Grown.{Grown}
+use Rattle.splits.proofs.TakeUps.{roots-one, roots-two}
 use Rattle.edit.specs.Trees.{TreeReady, TreeInserted}
-use Rattle.edit.specs.declared.Grown.{Grown}
 use Rattle.edit.proofs.Outcomes.{agrees-after}
 use Rattle.edit.proofs.Siblings.{insert-total, insert-split}
-use Rattle.edit.proofs.TakeUps.{roots-one, roots-two}
 
 module _ (p m : List ℕ) (h b i c holder : ℕ) (ready : TreeReady p m h b i c holder) (g : Grown) (q l : List ℕ) (ins : Inserted h b i c holder g p q m l) where
   module _ (whole : g .split ≡ false) where

@@ -1,6 +1,2 @@
-pub mod Inserts
-pub mod Entries
-pub mod Grafts
-pub mod Roots
 pub mod Trees
 pub mod Ways

@@ -14,7 +14,7 @@ use Rattle.pool.specs.Changes.{Only}
 use Rattle.pool.specs.Sound.{SoundBlock, SoundBelow}
 use Rattle.pool.specs.Trees.{shapeAt, blocksAt, pathAt}
 use Rattle.holders.specs.Maps.{isFree, freeIn, Entered}
-use Rattle.edit.specs.Inserts.{InsertReady}
+use Rattle.splits.specs.Inserts.{InsertReady}
 use Rattle.edit.specs.declared.tree.Rooted.{Rooted}
 
 -- the tree at a block of level h

@@ -19,7 +19,7 @@ use Rattle.pool.specs.Trees.{shapeAt, blocksAt}
 use Rattle.pool.specs.Words.{wordLimit}
 use Rattle.blocks.specs.Contents.{linkIn, entryList}
 use Rattle.holders.specs.Maps.{MapFits, Agrees}
-use Rattle.edit.specs.Entries.{TrueEntry, SoundChild}
+use Rattle.splits.specs.Entries.{TrueEntry, SoundChild}
 use Rattle.removal.specs.Removals.{Becomes}
 
 -- a block of level h with so many entries at least is sound, with all below it
