@@ -1,7 +1,6 @@
 // Marks put into a name's tree: the way down to a leaf, and back up it with what became of each block.
 mod descent;
 mod insert;
-pub mod seat;
 mod tree;
 
 pub use insert::insert_in;
