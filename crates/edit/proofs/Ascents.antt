@@ -30,20 +30,20 @@ use Rattle.pool.specs.Blocks.{entries, link, marksBelow}
 use Rattle.pool.specs.Trees.{shapeAt, blocksAt, pathAt}
 use Rattle.blocks.proofs.Branches.{entry-link, entries-length, entry-at}
 use Rattle.blocks.specs.Contents.{linkIn, entryList}
-use Rattle.edit.specs.Entries.{TrueEntry, SoundChild}
-use Rattle.edit.specs.Grafts.{TakenUp}
-use Rattle.edit.specs.Inserts.{roots, InsertReady, Inserted}
-use Rattle.edit.specs.Maps.{isFree}
+use Rattle.holders.specs.Maps.{isFree}
+use Rattle.holders.proofs.Takes.{entered-then, entered-falls}
+use Rattle.splits.specs.Entries.{TrueEntry, SoundChild}
+use Rattle.splits.specs.Grafts.{TakenUp}
+use Rattle.splits.specs.Inserts.{roots, InsertReady, Inserted}
+use Rattle.splits.specs.declared.Grown.{Grown}
+use Rattle.splits.proofs.GoodEntries.{GoodEntry, shapeIn, blocksIn, below-good, shape-entries, blocks-entries}
+use Rattle.splits.proofs.KeptLists.{KeptList, kept-list}
+use Rattle.splits.proofs.Pieces.{all-both, all-unmapped, map-append, map-take, map-drop, map-twice}
+use Rattle.splits.proofs.SameEntries.{same-entry-list}
 use Rattle.entries.specs.Seats.{Seated}
-use Rattle.edit.specs.declared.Grown.{Grown}
 use Rattle.entries.specs.declared.Seat.{Seat}
 use Rattle.edit.proofs.Descents.{child-takes, before-total, around, child-splits, child-ready, child-path}
-use Rattle.edit.proofs.GoodEntries.{GoodEntry, shapeIn, blocksIn, below-good, shape-entries, blocks-entries}
-use Rattle.edit.proofs.KeptLists.{KeptList, kept-list}
-use Rattle.edit.proofs.Maps.{entered-then, entered-falls}
-use Rattle.edit.proofs.Pieces.{all-both, all-unmapped, map-append, map-take, map-drop, map-twice}
 use Rattle.edit.proofs.Regroups.{regrouped-shapes, regrouped-blocks, regrouped-sound}
-use Rattle.edit.proofs.SameEntries.{same-entry-list}
 use Rattle.edit.proofs.Siblings.{length-roots, insert-same, insert-sound, branch-same}
 
 -- The blocks of a branch, around child k.

@@ -25,7 +25,7 @@ use Rattle.pool.specs.Blocks.{entries, link, marksBelow}
 use Rattle.pool.specs.Bytes.{shares}
 use Rattle.pool.specs.Sound.{SoundBlock}
 use Rattle.pool.specs.Trees.{shapeAt, blocksAt, pathAt}
-use Rattle.edit.specs.Inserts.{InsertReady}
+use Rattle.splits.specs.Inserts.{InsertReady}
 use Rattle.entries.proofs.SeatedChildren.{seated-takes, seated-total, seated-path}
 use Rattle.entries.specs.Seats.{Seated}
 use Rattle.entries.specs.declared.Seat.{Seat}
@@ -89,6 +89,7 @@ module _ (p m : List ℕ) (h b i c holder : ℕ) (ready : InsertReady p m (suc h
       let block : SoundBlock p (least oneToAByte h) h childOf = ready .below (s .k) (seated .inside) .0 in
       record {
         map = ready .map;
+        named = ready .named;
         block = record { inside = block .inside; form = block .form; enough = omega (arith, block .enough, root-least oneToAByte oneToAByte-proper h); fits = block .fits };
         below = ready .below (s .k) (seated .inside) .1;
         agrees = λ x. omega (arith, ready .agrees x, child-blocks x);

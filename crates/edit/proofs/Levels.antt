@@ -7,7 +7,7 @@ use native.Mathlib.Omega.{arith}
 use Rattle.geometry.specs.Layout.{leastBranch, mostBranch}
 use Rattle.pool.specs.Blocks.{entries, marksBelow}
 use Rattle.pool.specs.Bytes.{shares}
-use Rattle.edit.specs.Inserts.{InsertReady}
+use Rattle.splits.specs.Inserts.{InsertReady}
 use Rattle.entries.specs.Seats.{Seated}
 use Rattle.entries.specs.declared.Seat.{Seat}
 use Rattle.edit.proofs.Descents.{branch-ready, before-least}

@@ -14,9 +14,9 @@ use Rattle.pool.proofs.SoundTrees.{sound-marks}
 use Rattle.pool.specs.Blocks.{entries, link, children}
 use Rattle.pool.specs.Sound.{SoundBelow}
 use Rattle.pool.specs.Trees.{shapeAt, blocksAt}
-use Rattle.edit.specs.Inserts.{roots, InsertReady, Inserted}
-use Rattle.edit.specs.Maps.{Agrees}
-use Rattle.edit.specs.declared.Grown.{Grown}
+use Rattle.holders.specs.Maps.{Agrees}
+use Rattle.splits.specs.Inserts.{roots, InsertReady, Inserted}
+use Rattle.splits.specs.declared.Grown.{Grown}
 
 module _ (h b i c holder : ℕ) (g : Grown) (p q m n : List ℕ) (ready : InsertReady p m h b i c holder) (ins : Inserted h b i c holder g p q m n) where
   -- the map agrees with the trees as it did, so no block stands twice

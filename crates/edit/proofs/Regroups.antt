@@ -22,12 +22,12 @@ use Rattle.pool.specs.Sound.{SoundBlock, SoundBelow}
 use Rattle.pool.specs.Trees.{shapeAt, blocksAt}
 use Rattle.blocks.proofs.Branches.{entries-length}
 use Rattle.blocks.specs.Contents.{entryList}
-use Rattle.edit.specs.Grafts.{Regrouped}
-use Rattle.edit.specs.Inserts.{roots, leastAfter}
-use Rattle.edit.specs.declared.Grown.{Grown}
-use Rattle.edit.proofs.GoodEntries.{GoodEntry, shapeIn, blocksIn, good-below, shape-entries, blocks-entries}
-use Rattle.edit.proofs.KeptLists.{KeptList}
-use Rattle.edit.proofs.Pieces.{all-both, all-unmapped, map-chop, all-chop, chop-sizes}
+use Rattle.splits.specs.Grafts.{Regrouped}
+use Rattle.splits.specs.Inserts.{roots, leastAfter}
+use Rattle.splits.specs.declared.Grown.{Grown}
+use Rattle.splits.proofs.GoodEntries.{GoodEntry, shapeIn, blocksIn, good-below, shape-entries, blocks-entries}
+use Rattle.splits.proofs.KeptLists.{KeptList}
+use Rattle.splits.proofs.Pieces.{all-both, all-unmapped, map-chop, all-chop, chop-sizes}
 use Rattle.edit.proofs.Siblings.{length-roots}
 
 module _ (t : List ℕ) (h : ℕ) where

@@ -35,16 +35,17 @@ use Rattle.pool.specs.Blocks.{entries, link, marksBelow}
 use Rattle.pool.specs.Changes.{SameBlock}
 use Rattle.pool.specs.Sound.{SoundBlock, SoundBelow, Tells}
 use Rattle.pool.specs.Trees.{shapeAt, blocksAt, pathAt}
-use Rattle.edit.specs.Entries.{SoundChild}
-use Rattle.edit.specs.Grafts.{TakeUpReady}
-use Rattle.edit.specs.Inserts.{roots, leastAfter, InsertReady, Inserted}
-use Rattle.edit.specs.Maps.{isFree, freeIn}
+use Rattle.holders.specs.Maps.{isFree, freeIn}
+use Rattle.holders.proofs.Maps.{fits-after}
+use Rattle.holders.proofs.Takes.{entered-falls}
+use Rattle.splits.specs.Entries.{SoundChild}
+use Rattle.splits.specs.Grafts.{TakeUpReady}
+use Rattle.splits.specs.Inserts.{roots, leastAfter, InsertReady, Inserted}
+use Rattle.splits.specs.declared.Grown.{Grown}
+use Rattle.splits.proofs.Pieces.{room-step}
 use Rattle.entries.specs.Seats.{Seated}
-use Rattle.edit.specs.declared.Grown.{Grown}
 use Rattle.entries.specs.declared.Seat.{Seat}
 use Rattle.edit.proofs.Descents.{child-takes, before-total, child-short, around, child-splits, child-blocks, child-ready}
-use Rattle.edit.proofs.Maps.{entered-falls}
-use Rattle.edit.proofs.Pieces.{room-step}
 
 -- how many roots there are
 pub length-roots : (g : Grown) (b : ℕ) → length (roots g b) ≡ suc (cond (g .split) 1 0)
@@ -135,7 +136,8 @@ module _ (p m : List ℕ) (h b i c holder : ℕ) (ready : InsertReady p m (suc h
         let told : Tells p h b (s .k) = ready .below (s .k) (seated .inside) .2 in
         let long : length q ≡ length p = ins .only .long in
         record {
-          map = record { blocks = omega (arith, ins .entered .long, ready .map .blocks, long); named = ready .map .named; longest = omega (arith, ready .map .longest, long) };
+          map = fits-after p q m n long (ins .entered .long) (ready .map);
+          named = ready .named;
           branch = record { inside = omega (arith, ready .block .inside, long); fits = omega (arith, many, ready .block .fits) };
           form = same-byte p q b branch-same _ (omega arith) (omega arith) ∙ ready .block .form;
           held = branch-held;

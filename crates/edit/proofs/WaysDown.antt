@@ -14,10 +14,10 @@ use Rattle.pool.specs.Bytes.{shares}
 use Rattle.entries.specs.Seats.{Seated}
 use Rattle.entries.specs.Summaries.{Is}
 use Rattle.entries.specs.declared.Seat.{Seat}
-use Rattle.edit.specs.Grafts.{TakeUpReady, TakenUp}
-use Rattle.edit.specs.Inserts.{InsertReady, Inserted}
+use Rattle.splits.specs.Grafts.{TakeUpReady, TakenUp}
+use Rattle.splits.specs.Inserts.{InsertReady, Inserted}
+use Rattle.splits.specs.declared.Grown.{Grown}
 use Rattle.edit.specs.Ways.{Insertable, Down, Room, WayTo}
-use Rattle.edit.specs.declared.Grown.{Grown}
 use Rattle.edit.proofs.Ascents.{inserted-above}
 use Rattle.edit.proofs.Descents.{child-ready}
 use Rattle.edit.proofs.Levels.{choice-ready, link-ready, place-past}

@@ -13,11 +13,11 @@ use Rattle.pool.specs.Blocks.{marksBelow, countBelow}
 use Rattle.pool.specs.Bytes.{shares}
 use Rattle.pool.specs.Words.{wordLimit}
 use Rattle.entries.specs.Entries.{AddMark}
-use Rattle.edit.specs.Grafts.{TakeUpReady, halved, SplitReady, TakenUp}
-use Rattle.edit.specs.Inserts.{InsertReady, Inserted}
+use Rattle.splits.specs.Grafts.{TakeUpReady, halved, SplitReady, TakenUp}
+use Rattle.splits.specs.Inserts.{InsertReady, Inserted}
+use Rattle.splits.specs.declared.Grown.{Grown}
+use Rattle.splits.proofs.TakeUps.{add-ready, taken-up-one}
 use Rattle.edit.specs.Ways.{WayTo, Climbing, Climber, Climbed, Counter, Counted}
-use Rattle.edit.specs.declared.Grown.{Grown}
-use Rattle.edit.proofs.TakeUps.{add-ready, taken-up-one}
 use Rattle.edit.proofs.WaysDown.{climb-ready, climbed, climbed-all}
 
 climber : (p m : List ℕ) (h b i c holder : ℕ) (blocks children : List ℕ) (j : ℕ) (g : Grown) (q l : List ℕ)

@@ -20,15 +20,16 @@ use Rattle.pool.proofs.Changed.{only-then, only-wider}
 use Rattle.pool.specs.Blocks.{entries}
 use Rattle.pool.specs.Sound.{SoundBlock, SoundBelow}
 use Rattle.pool.specs.Trees.{shapeAt, blocksAt, pathAt}
-use Rattle.edit.specs.Inserts.{Inserted}
-use Rattle.edit.specs.Maps.{isFree, Agrees}
-use Rattle.edit.specs.Roots.{RootReady, RootGrown}
+use Rattle.holders.specs.Maps.{isFree, Agrees}
+use Rattle.holders.proofs.Maps.{fits-after}
+use Rattle.holders.proofs.Takes.{entered-then, entered-falls}
+use Rattle.splits.specs.Inserts.{Inserted}
+use Rattle.splits.specs.Roots.{RootReady, RootGrown}
+use Rattle.splits.specs.declared.Grown.{Grown}
+use Rattle.splits.proofs.TakeUps.{roots-one, roots-two}
 use Rattle.edit.specs.Trees.{TreeReady, TreeInserted}
-use Rattle.edit.specs.declared.Grown.{Grown}
-use Rattle.edit.proofs.Maps.{entered-then, entered-falls}
 use Rattle.edit.proofs.Outcomes.{agrees-after}
 use Rattle.edit.proofs.Siblings.{insert-total, insert-split}
-use Rattle.edit.proofs.TakeUps.{roots-one, roots-two}
 
 module _ (p m : List ℕ) (h b i c holder : ℕ) (ready : TreeReady p m h b i c holder) (g : Grown) (q l : List ℕ) (ins : Inserted h b i c holder g p q m l) where
   module _ (whole : g .split ≡ false) where
@@ -72,12 +73,8 @@ module _ (p m : List ℕ) (h b i c holder : ℕ) (ready : TreeReady p m h b i c 
     pub root-ready : RootReady q l h b (g .new) holder
     root-ready =
         record {
-          map =
-              record {
-                blocks = omega (arith, ins .entered .long, ready .node .map .blocks, ins .only .long);
-                named = ready .node .map .named;
-                longest = omega (arith, ready .node .map .longest, ins .only .long);
-              };
+          map = fits-after p q m l (ins .only .long) (ins .entered .long) (ready .node .map);
+          named = ready .node .named;
           leftSound = halves-sound .0;
           rightSound = halves-sound .1 .0;
           agrees = subst (λ (ys : List ℕ). Agrees l (joined (blocksAt q h) ys)) (roots-two g b parted) (agrees-after h b i c holder g p q m l (ready .node) ins);

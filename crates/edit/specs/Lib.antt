@@ -1,7 +1,2 @@
-pub mod Maps
-pub mod Inserts
-pub mod Entries
-pub mod Grafts
-pub mod Roots
 pub mod Trees
 pub mod Ways

@@ -9,17 +9,13 @@ use Rattle.sequence.specs.Definition1.{count}
 use Rattle.shape.specs.Blocks.{splitsT}
 use Rattle.shape.specs.Fill.{rootLeast}
 use Rattle.shape.specs.Sizes.{oneToAByte}
-use Rattle.shape.specs.Trees.{Tree, insertT}
+use Rattle.shape.specs.Trees.{insertT}
 use Rattle.pool.specs.Changes.{Only}
 use Rattle.pool.specs.Sound.{SoundBlock, SoundBelow}
-use Rattle.pool.specs.Trees.{shapeAt, blocksAt, pathAt}
-use Rattle.edit.specs.Inserts.{InsertReady}
-use Rattle.edit.specs.Maps.{isFree, freeIn, Entered}
+use Rattle.pool.specs.Trees.{treeAt, blocksAt, pathAt}
+use Rattle.holders.specs.Maps.{isFree, freeIn, Entered}
+use Rattle.splits.specs.Inserts.{InsertReady}
 use Rattle.edit.specs.declared.tree.Rooted.{Rooted}
-
--- the tree at a block of level h
-abbrev pub treeAt : List ℕ → ℕ → ℕ → Tree
-treeAt p h b = record { height = h; root = shapeAt p h b }
 
 -- a mark c can be put in at place i: there are as many free blocks as the insert adds to the tree, and no more are asked for
 pub record TreeReady (p m : List ℕ) (h b i c holder : ℕ) : Type 0 where

@@ -10,8 +10,8 @@ use Rattle.pool.specs.Blocks.{entries, link, marksBelow}
 use Rattle.entries.specs.Seats.{Seated}
 use Rattle.entries.specs.Summaries.{Is}
 use Rattle.entries.specs.declared.Seat.{Seat}
-use Rattle.edit.specs.Inserts.{InsertReady, Inserted}
-use Rattle.edit.specs.declared.Grown.{Grown}
+use Rattle.splits.specs.Inserts.{InsertReady, Inserted}
+use Rattle.splits.specs.declared.Grown.{Grown}
 
 -- some mark can be put in at place i of the tree at block b
 pub record Insertable (p : List ℕ) (h b i : ℕ) : Type 0 where

@@ -3,7 +3,7 @@
 ghost use Prim.Native.Nat.{_≤_};
 ghost use Rattle.geometry.specs.Layout.{mostHeight};
 ghost use Rattle.edit.specs.Ways.{Insertable, WayTo, Room};
-use crate::seat::find_child;
+use entries::find_child;
 use entries::link;
 use geometry::Record;
 

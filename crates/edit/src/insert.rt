@@ -1,14 +1,14 @@
 // A mark put into a tree, at any level.
 ghost use Prim.Native.Nat.{_≤_};
 ghost use Rattle.geometry.specs.Layout.{mostHeight};
-ghost use Rattle.edit.specs.Inserts.{InsertReady, Inserted};
+ghost use Rattle.splits.specs.Inserts.{InsertReady, Inserted};
 ghost use Rattle.edit.specs.Ways.{Climber, Climbed, Counter, Counted};
-use crate::Grown;
-use crate::branches::take_up;
 use crate::descent::LEVELS;
 use crate::descent::find_way;
-use crate::leaves::insert_in_leaf;
 use entries::add_mark;
+use splits::Grown;
+use splits::insert_in_leaf;
+use splits::take_up;
 
 // Puts c in at place i of the tree at block b, a block of a level. It enters one block a level, and writes no other that it didn't take.
 pub fn insert_in(

@@ -1,7 +1,7 @@
 // A mark put into a whole tree.
 ghost use Rattle.edit.specs.Trees.{TreeReady, TreeInserted};
 use crate::insert::insert_in;
-use crate::root::grow_root;
+use splits::grow_root;
 
 // A tree's root block and its level.
 pub struct Rooted {

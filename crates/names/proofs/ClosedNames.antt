@@ -21,7 +21,7 @@ use Rattle.pool.proofs.Changed.{only-none}
 use Rattle.pool.proofs.Meanings.{closed-meaning}
 use Rattle.pool.proofs.SoundNames.{closed-blocks}
 use Rattle.pool.proofs.Written.{closed-put}
-use Rattle.edit.specs.Maps.{isFree}
+use Rattle.holders.specs.Maps.{isFree}
 use Rattle.names.specs.Holders.{HolderFreed}
 use Rattle.names.specs.Updates.{CloseReady, Updated}
 use Rattle.names.proofs.ExactMaps.{Turns, zero-isFree, held-isFree, same-free, held-has-byte, marked-held, block-byte, name-agrees}

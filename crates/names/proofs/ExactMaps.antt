@@ -30,7 +30,7 @@ use Rattle.pool.proofs.SoundNames.{open-blocks, name-distinct, held-inside}
 use Rattle.pool.proofs.Sums.{sumBelow-same, sumBelow-one, sumBelow-two}
 use Rattle.sound.proofs.Holders.{times-held, name-inside}
 use Rattle.sound.proofs.Readings.{zero-free, held-by}
-use Rattle.edit.specs.Maps.{isFree, freeIn, Entered, Agrees}
+use Rattle.holders.specs.Maps.{isFree, freeIn, Agrees, Entered}
 use Rattle.names.specs.Updates.{Exact}
 
 -- Counts as sums over places.

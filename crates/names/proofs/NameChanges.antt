@@ -27,7 +27,7 @@ use Rattle.pool.proofs.Changed.{directory-blocks}
 use Rattle.pool.proofs.Distincts.{standing-all}
 use Rattle.pool.proofs.NamesKept.{only-untouched}
 use Rattle.pool.proofs.SoundAfter.{sound-after}
-use Rattle.edit.specs.Maps.{isFree}
+use Rattle.holders.specs.Maps.{isFree}
 use Rattle.names.specs.Updates.{Exact, Updated}
 use Rattle.names.proofs.ExactMaps.{Turns, held-two, name-distinct-after, own-after, exact-after}
 

@@ -25,8 +25,8 @@ use Rattle.pool.proofs.Changed.{directory-blocks, word-in-block}
 use Rattle.pool.proofs.Meanings.{open-meaning}
 use Rattle.pool.proofs.SoundNames.{closed-blocks, open-blocks, unpromised-free}
 use Rattle.blocks.specs.Moves.{Emptied}
-use Rattle.edit.specs.Maps.{isFree, freeIn, Taken}
-use Rattle.edit.proofs.Maps.{taken-long, taken-blocks, taken-entered}
+use Rattle.holders.specs.Maps.{isFree, freeIn, Taken}
+use Rattle.holders.proofs.Takes.{taken-long, taken-blocks, taken-entered}
 use Rattle.names.specs.Updates.{OpenReady, Updated}
 use Rattle.names.proofs.ExactMaps.{zeros-are-free, zero-count, entered-turns}
 use Rattle.names.proofs.NameChanges.{others-untouched, header-kept, updated}

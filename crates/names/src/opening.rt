@@ -3,8 +3,8 @@ ghost use Rattle.protocol.specs.State.{opened};
 ghost use Rattle.shape.specs.Trees.{emptyT};
 ghost use Rattle.names.specs.Updates.{OpenReady, Updated};
 use blocks::empty_block;
-use edit::take_block;
 use geometry::Record;
+use holders::take_block;
 use pool::write_record;
 
 // Opens a name for marks of an alphabet, with the promise of q shares.

@@ -10,7 +10,7 @@ use Rattle.geometry.specs.declared.Record.{Record}
 use Rattle.shape.specs.Nested.{joined}
 use Rattle.shape.specs.Trees.{Tree}
 use Rattle.pool.specs.Bytes.{byte, word, recordAt, from}
-use Rattle.pool.specs.Trees.{shapeAt, blocksAt, pathAt}
+use Rattle.pool.specs.Trees.{treeAt, blocksAt, pathAt}
 
 -- the record of a name
 unfoldable pub recordOf : List ℕ → ℕ → Record
@@ -26,7 +26,7 @@ recordOf p name =
 
 -- the tree that a name's record stands for
 abbrev pub treeOf : List ℕ → ℕ → Tree
-treeOf p name = record { height = recordOf p name .height; root = shapeAt p (recordOf p name .height) (recordOf p name .root) }
+treeOf p name = treeAt p (recordOf p name .height) (recordOf p name .root)
 
 -- the blocks from its root to the leaf that bears place i
 abbrev pub pathOf : List ℕ → ℕ → ℕ → List ℕ

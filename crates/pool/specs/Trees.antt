@@ -7,12 +7,17 @@ use Rattle.sequence.specs.Alphabet.{sumBelow}
 use Rattle.sequence.specs.Definition1.{count}
 use Rattle.shape.specs.Nested.{Node, joined}
 use Rattle.shape.specs.Paths.{path}
+use Rattle.shape.specs.Trees.{Tree}
 use Rattle.pool.specs.Blocks.{entries, leafMarks, link, marksBelow, countBelow, children}
 
 -- the shape of the tree at a block of level h
 abbrev pub shapeAt : List ℕ → (h : ℕ) → ℕ → Node h
 shapeAt p zero b = leafMarks p b
 shapeAt p (suc h) b = map (shapeAt p h) (children p b)
+
+-- that tree, with its height
+abbrev pub treeAt : List ℕ → ℕ → ℕ → Tree
+treeAt p h b = record { height = h; root = shapeAt p h b }
 
 -- its blocks, itself first
 abbrev pub blocksAt : List ℕ → ℕ → ℕ → List ℕ

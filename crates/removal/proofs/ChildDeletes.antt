@@ -35,12 +35,13 @@ use Rattle.pool.specs.Trees.{shapeAt, blocksAt}
 use Rattle.sequence.specs.Alphabet.{sumBelow}
 use Rattle.entries.proofs.SeatedChildren.{seated-takes, seated-total, seated-range}
 use Rattle.entries.proofs.Telling.{entry-tells}
-use Rattle.edit.specs.Maps.{isFree}
 use Rattle.entries.specs.Seats.{Seated}
 use Rattle.entries.specs.declared.Seat.{Seat}
+use Rattle.holders.specs.Maps.{isFree}
+use Rattle.holders.proofs.Maps.{fits-after}
+use Rattle.holders.proofs.Frees.{freed-then, freed-grows}
 use Rattle.removal.specs.Mends.{SoundPart, SettleReady, Mended}
 use Rattle.removal.specs.Removals.{DeleteReady, Deleted}
-use Rattle.removal.proofs.Frees.{freed-then, freed-grows}
 use Rattle.removal.proofs.KeptParts.{part-shape, part-blocks, part-sound}
 use Rattle.removal.proofs.ShortChildren.{fewer}
 
@@ -188,7 +189,7 @@ module _ (p m : List ℕ) (h b i : ℕ) (ready : DeleteReady p m (suc h) b i) (s
         let old : Tells p h b (s .k) = ready .below (s .k) (seated .inside) .2 in
         let xs : List ℕ = flat h (shapeAt p h childOf) in
         record {
-          map = record { blocks = omega (arith, ready .map .blocks, del .tree .freed .long, only .long); longest = omega (arith, ready .map .longest, only .long) };
+          map = fits-after p q m n (only .long) (del .tree .freed .long) (ready .map);
           block = same-block p q b branch-same (only .long) leastBranch (suc h) (ready .block);
           place = omega (arith, many, seated .inside);
           others = λ j l other. let inside : j < entries p b = omega (arith, many) in (other-sound j inside other, other-tells j inside other);

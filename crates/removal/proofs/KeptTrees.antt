@@ -8,9 +8,9 @@ use Rattle.sequence.specs.Items.{All}
 use Rattle.shape.specs.Nested.{joined}
 use Rattle.pool.specs.Changes.{Only}
 use Rattle.blocks.specs.Contents.{linkIn}
-use Rattle.edit.proofs.GoodEntries.{GoodEntry, blocksIn}
-use Rattle.edit.proofs.KeptLists.{KeptList, kept-list}
-use Rattle.edit.specs.Entries.{TrueEntry, SoundChild}
+use Rattle.splits.specs.Entries.{TrueEntry, SoundChild}
+use Rattle.splits.proofs.GoodEntries.{GoodEntry, blocksIn}
+use Rattle.splits.proofs.KeptLists.{KeptList, kept-list}
 use Rattle.removal.specs.Mends.{AllGood}
 
 -- good entries, as the laws of `edit` say it

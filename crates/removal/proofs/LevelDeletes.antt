@@ -18,10 +18,10 @@ use Rattle.entries.proofs.Levels.{at-leaf, at-branch}
 use Rattle.entries.specs.Summaries.{Is}
 use Rattle.entries.specs.Seats.{Seated}
 use Rattle.entries.specs.declared.Seat.{Seat}
+use Rattle.holders.proofs.Frees.{freed-none}
 use Rattle.removal.specs.Mends.{SettleReady, Mended}
 use Rattle.removal.specs.Removals.{DeleteReady, Deleted}
 use Rattle.removal.proofs.ChildDeletes.{child-ready, settle-ready, level-deleted}
-use Rattle.removal.proofs.Frees.{freed-none}
 use Rattle.removal.proofs.PairMends.{own-block}
 
 -- A leaf.

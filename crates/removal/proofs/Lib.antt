@@ -1,4 +1,3 @@
-pub mod Frees
 pub mod KeptTrees
 pub mod NodeMends
 pub mod PairMends

@@ -27,8 +27,8 @@ use Rattle.blocks.proofs.Branches.{entries-length}
 use Rattle.blocks.specs.Branches.{BranchesJoined, BranchesShared}
 use Rattle.blocks.specs.Contents.{entryList, LeafAt, BranchAt}
 use Rattle.blocks.specs.Leaves.{LeavesJoined, LeavesShared}
-use Rattle.edit.proofs.GoodEntries.{GoodEntry, shapeIn, blocksIn, below-good, good-below, shape-entries, blocks-entries}
-use Rattle.edit.proofs.Pieces.{map-append, map-chop}
+use Rattle.splits.proofs.GoodEntries.{GoodEntry, shapeIn, blocksIn, below-good, good-below, shape-entries, blocks-entries}
+use Rattle.splits.proofs.Pieces.{map-append, map-chop}
 use Rattle.removal.specs.Mends.{TwoNodes, NodesJoined, NodesShared}
 use Rattle.removal.proofs.KeptTrees.{kept-entries}
 

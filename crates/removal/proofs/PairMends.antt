@@ -25,11 +25,10 @@ use Rattle.pool.specs.Changes.{Only}
 use Rattle.pool.specs.Trees.{shapeAt, blocksAt}
 use Rattle.blocks.proofs.Branches.{entry-link, entry-at, entries-length}
 use Rattle.blocks.specs.Contents.{linkIn, entryList}
-use Rattle.edit.proofs.GoodEntries.{GoodEntry, shapeIn, blocksIn, good-below, shape-entries, blocks-entries}
-use Rattle.edit.proofs.Pieces.{all-both, all-unmapped, map-append, map-take, map-drop, map-twice}
-use Rattle.edit.specs.Entries.{TrueEntry, SoundChild}
-use Rattle.edit.specs.Maps.{isFree}
-use Rattle.removal.specs.Frees.{Freed}
+use Rattle.holders.specs.Maps.{isFree, Freed}
+use Rattle.splits.specs.Entries.{TrueEntry, SoundChild}
+use Rattle.splits.proofs.GoodEntries.{GoodEntry, shapeIn, blocksIn, good-below, shape-entries, blocks-entries}
+use Rattle.splits.proofs.Pieces.{all-both, all-unmapped, map-append, map-take, map-drop, map-twice}
 use Rattle.removal.specs.Mends.{TwoNodes, NodesMended, PairReady, pairShape, PairMended}
 use Rattle.removal.proofs.KeptTrees.{all-good, kept-entries}
 

@@ -28,13 +28,12 @@ use Rattle.entries.proofs.Neighbours.{entries-kept, form-kept, only-entry}
 use Rattle.entries.specs.Entries.{PutEntry}
 use Rattle.entries.specs.Summaries.{SummaryOf, SmallSums}
 use Rattle.entries.specs.declared.Summary.{Summary}
-use Rattle.edit.proofs.EntryPuts.{entry-holds}
-use Rattle.edit.proofs.SameEntries.{same-entry-list}
-use Rattle.edit.proofs.TakeUps.{holds-true, summary-ready}
-use Rattle.edit.specs.Maps.{isFree}
-use Rattle.removal.specs.Frees.{GivenBack}
+use Rattle.holders.specs.Maps.{isFree, GivenBack}
+use Rattle.holders.proofs.Frees.{given-blocks, given-freed, freed-none}
+use Rattle.splits.proofs.EntryPuts.{entry-holds}
+use Rattle.splits.proofs.SameEntries.{same-entry-list}
+use Rattle.splits.proofs.TakeUps.{holds-true, summary-ready}
 use Rattle.removal.specs.Mends.{TwoNodes, NodesMended, NodesJoined, NodesShared, PairOf, PairMended}
-use Rattle.removal.proofs.Frees.{given-blocks, given-freed, freed-none}
 use Rattle.removal.proofs.PairMends.{own-block, all-blocks, pair-nodes, right-held, pair-mended}
 
 -- the items up to the one in the middle, and those behind the next

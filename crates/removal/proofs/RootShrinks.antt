@@ -18,12 +18,11 @@ use Rattle.pool.specs.Blocks.{entries, link}
 use Rattle.pool.specs.Bytes.{from}
 use Rattle.pool.specs.Trees.{shapeAt, blocksAt}
 use Rattle.entries.proofs.Levels.{at-leaf, at-branch}
-use Rattle.edit.specs.Maps.{isFree}
 use Rattle.entries.specs.Summaries.{Is}
-use Rattle.removal.specs.Frees.{GivenBack}
+use Rattle.holders.specs.Maps.{isFree, GivenBack}
+use Rattle.holders.proofs.Frees.{given-blocks, given-freed, freed-then}
 use Rattle.removal.specs.Removals.{DeleteReady, Deleted}
 use Rattle.removal.specs.Trees.{TreeDeleted}
-use Rattle.removal.proofs.Frees.{given-blocks, given-freed, freed-then}
 use Rattle.removal.proofs.PairMends.{own-block}
 
 shrunk-whole : (h : ℕ) (x : Node (suc h)) → 1 < length x → shrunk (suc h) x ≡ record { height = suc h; root = x }

@@ -26,7 +26,8 @@ use Rattle.pool.specs.Trees.{shapeAt, blocksAt}
 use Rattle.entries.proofs.Neighbours.{link-apart, entries-kept, form-kept, only-entry}
 use Rattle.entries.proofs.Telling.{entry-tells, apart-tells}
 use Rattle.entries.specs.Entries.{TakeMark}
-use Rattle.edit.specs.Maps.{isFree}
+use Rattle.holders.specs.Maps.{isFree}
+use Rattle.holders.proofs.Maps.{fits-after}
 use Rattle.removal.specs.Mends.{ShortReady, SettleReady, Mended}
 use Rattle.removal.proofs.KeptParts.{part-shape, part-blocks, part-sound}
 use Rattle.removal.proofs.ShortChildren.{each-part}
@@ -83,7 +84,7 @@ module _ (p m : List ℕ) (h b k c : ℕ) (ready : SettleReady p m h b k c) wher
     pub short-ready : ShortReady q m h b k
     short-ready =
         record {
-          map = record { blocks = omega (arith, ready .map .blocks, only .long); longest = omega (arith, ready .map .longest, only .long) };
+          map = fits-after p q m m (only .long) refl (ready .map);
           block =
               record {
                 inside = omega (arith, ready .block .inside, only .long);

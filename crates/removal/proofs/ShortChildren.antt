@@ -27,9 +27,9 @@ use Rattle.pool.specs.Trees.{shapeAt}
 use Rattle.blocks.proofs.Branches.{entry-link, entry-below, entry-count}
 use Rattle.blocks.specs.Contents.{linkIn, entryBytes, entryList}
 use Rattle.entries.specs.Summaries.{Is}
-use Rattle.edit.specs.Entries.{TrueEntry, SoundChild}
+use Rattle.holders.proofs.Frees.{freed-none}
+use Rattle.splits.specs.Entries.{TrueEntry, SoundChild}
 use Rattle.removal.specs.Mends.{SoundPart, AllGood, PairReady, pairShape, PairMended, ShortReady, Mended}
-use Rattle.removal.proofs.Frees.{freed-none}
 use Rattle.removal.proofs.PairMends.{split-two}
 
 -- a node's entries are its shape's

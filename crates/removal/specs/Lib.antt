@@ -1,4 +1,3 @@
-pub mod Frees
 pub mod Removals
 pub mod Mends
 pub mod Trees

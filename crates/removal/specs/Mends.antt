@@ -18,9 +18,9 @@ use Rattle.pool.specs.Sound.{SoundBlock, SoundBelow, Tells}
 use Rattle.pool.specs.Trees.{shapeAt, blocksAt}
 use Rattle.pool.specs.Words.{wordLimit}
 use Rattle.blocks.specs.Contents.{linkIn, entryList}
-use Rattle.edit.specs.Entries.{TrueEntry, SoundChild}
-use Rattle.edit.specs.Maps.{Agrees}
-use Rattle.removal.specs.Removals.{MapFits, Becomes}
+use Rattle.holders.specs.Maps.{MapFits, Agrees}
+use Rattle.splits.specs.Entries.{TrueEntry, SoundChild}
+use Rattle.removal.specs.Removals.{Becomes}
 
 -- a block of level h with so many entries at least is sound, with all below it
 abbrev pub SoundPart : List ℕ → ℕ → ℕ → ℕ → Type 0

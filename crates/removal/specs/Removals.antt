@@ -3,26 +3,18 @@
 use mathlib.Core.Path.{_≡_}
 use mathlib.Core.List.{List}
 use Prim.Native.Nat.{ℕ, _+_, _-_, _≤_, _<_}
-use lib.ListN.{length}
-use Rattle.geometry.specs.Limits.{longestPool, mostAlphabet}
+use Rattle.geometry.specs.Limits.{mostAlphabet}
 use Rattle.sequence.specs.Definition1.{count, access}
 use Rattle.shape.specs.Fill.{rootLeast}
 use Rattle.shape.specs.Nested.{Node, flat, marksIn}
 use Rattle.shape.specs.Sizes.{oneToAByte}
 use Rattle.shape.specs.Trees.{deleteNode}
 use Rattle.pool.specs.Blocks.{entries}
-use Rattle.pool.specs.Bytes.{shares}
 use Rattle.pool.specs.Changes.{Only}
 use Rattle.pool.specs.Sound.{SoundBlock, SoundBelow}
 use Rattle.pool.specs.Trees.{shapeAt, blocksAt}
 use Rattle.pool.specs.Words.{wordLimit}
-use Rattle.edit.specs.Maps.{isFree, Agrees}
-use Rattle.removal.specs.Frees.{Freed}
-
--- a map that has a byte for each block of the pool
-pub record MapFits (p m : List ℕ) : Type 0 where
-  pub blocks : length m ≡ shares p
-  pub longest : length p ≤ longestPool
+use Rattle.holders.specs.Maps.{MapFits, isFree, Agrees, Freed}
 
 -- place i can be taken out of the tree at block b: the tree is sound and the map has its blocks as held, and the place is there
 pub record DeleteReady (p m : List ℕ) (h b i : ℕ) : Type 0 where

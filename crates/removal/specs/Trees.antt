@@ -10,10 +10,8 @@ use Rattle.shape.specs.Sizes.{oneToAByte}
 use Rattle.shape.specs.Trees.{marksT, deleteT}
 use Rattle.pool.specs.Changes.{Only}
 use Rattle.pool.specs.Sound.{SoundBlock, SoundBelow}
-use Rattle.pool.specs.Trees.{blocksAt}
-use Rattle.edit.specs.Maps.{isFree}
-use Rattle.edit.specs.Trees.{treeAt}
-use Rattle.removal.specs.Frees.{Freed}
+use Rattle.pool.specs.Trees.{treeAt, blocksAt}
+use Rattle.holders.specs.Maps.{isFree, Freed}
 use Rattle.removal.specs.declared.tree.Removed.{Removed}
 
 -- place i was taken out: p and m are the pool and the map before, q and n after

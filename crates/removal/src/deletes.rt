@@ -2,7 +2,7 @@
 ghost use Rattle.removal.specs.Removals.{DeleteReady, Deleted};
 use crate::mends::settle;
 use blocks::leaf::delete_mark;
-use edit::seat::find_child;
+use entries::find_child;
 use entries::link;
 
 // Takes place i out of the tree at block b, and answers the mark that stood there. Blocks that leave the tree are free in the map.

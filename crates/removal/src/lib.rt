@@ -1,6 +1,5 @@
 // Marks taken out of a name's tree. A node that is left short is joined with its neighbour or shares its entries; a block that is no longer used is free again at once.
 mod deletes;
-mod map;
 mod mends;
 mod nodes;
 mod pairs;

@@ -3,7 +3,6 @@ ghost use Prim.Native.Nat.{_+_, _≤_, _<_};
 ghost use Rattle.shape.specs.Sizes.{oneToAByte, most};
 ghost use Rattle.pool.specs.Blocks.{entries};
 ghost use Rattle.removal.specs.Mends.{PairReady, PairOf, PairMended};
-use crate::map::give_back;
 use crate::nodes::join_nodes;
 use crate::nodes::share_nodes;
 use blocks::branch::remove_entry;
@@ -12,6 +11,7 @@ use entries::link;
 use entries::most_entries;
 use entries::set_entry;
 use entries::summary_of;
+use holders::give_back;
 
 // Mends children k and the next of the branch b.
 pub fn mend_pair(pool: &mut [u8], level: usize, b: usize, k: usize, map: &mut [u8])

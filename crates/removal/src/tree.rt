@@ -2,9 +2,9 @@
 ghost use Rattle.removal.specs.Removals.{DeleteReady};
 ghost use Rattle.removal.specs.Trees.{TreeDeleted};
 use crate::deletes::delete_in;
-use crate::map::give_back;
 use entries::entry_count;
 use entries::link;
+use holders::give_back;
 
 // The mark taken out, and the tree's root block and its level after that.
 pub struct Removed {

@@ -21,11 +21,10 @@ use Rattle.pool.specs.Names.{recordOf, treeOf}
 use Rattle.pool.specs.Records.{PutRecord}
 use Rattle.pool.specs.Trees.{blocksAt, pathAt}
 use Rattle.pool.specs.Words.{wordLimit}
-use Rattle.edit.specs.Maps.{isFree}
+use Rattle.holders.specs.Maps.{isFree, Freed}
 use Rattle.edit.specs.Trees.{TreeReady, TreeInserted}
 use Rattle.edit.specs.declared.tree.Rooted.{Rooted}
 use Rattle.names.proofs.ExactMaps.{Turns, entered-turns}
-use Rattle.removal.specs.Frees.{Freed}
 use Rattle.removal.specs.Removals.{DeleteReady}
 use Rattle.removal.specs.Trees.{TreeDeleted}
 use Rattle.removal.specs.declared.tree.Removed.{Removed}

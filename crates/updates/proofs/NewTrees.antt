@@ -31,12 +31,11 @@ use Rattle.pool.specs.Meaning.{meaningOf}
 use Rattle.pool.specs.Names.{recordOf, treeOf, blocksOf, heldBlocks}
 use Rattle.pool.specs.Records.{PutRecord}
 use Rattle.pool.specs.Sound.{SoundBlock, SoundBelow, OpenName}
-use Rattle.pool.specs.Trees.{shapeAt, blocksAt}
+use Rattle.pool.specs.Trees.{shapeAt, treeAt, blocksAt}
 use Rattle.pool.specs.Untouched.{SameBlocks}
 use Rattle.pool.specs.Words.{wordLimit}
+use Rattle.holders.specs.Maps.{isFree}
 use Rattle.edit.proofs.Outcomes.{sound-narrower}
-use Rattle.edit.specs.Maps.{isFree}
-use Rattle.edit.specs.Trees.{treeAt}
 use Rattle.names.proofs.ExactMaps.{Turns, own-or-free-in}
 use Rattle.names.proofs.NameChanges.{others-untouched, header-kept, pool-long, updated}
 use Rattle.names.specs.Updates.{NameIn, Updated}

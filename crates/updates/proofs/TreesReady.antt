@@ -12,8 +12,8 @@ use Rattle.pool.proofs.Sums.{sumBelow-one}
 use Rattle.pool.specs.Names.{recordOf, treeOf}
 use Rattle.pool.specs.Shares.{promisedShares}
 use Rattle.pool.specs.Sound.{OpenName, Sound, SoundBelow}
+use Rattle.holders.specs.Maps.{freeIn}
 use Rattle.edit.proofs.Outcomes.{sound-wider}
-use Rattle.edit.specs.Maps.{freeIn}
 use Rattle.edit.specs.Trees.{TreeReady}
 use Rattle.names.proofs.ExactMaps.{zeros-are-free, open-agrees}
 use Rattle.removal.specs.Removals.{DeleteReady}
@@ -36,7 +36,8 @@ insert-ready p m name i c at =
     record {
       node =
           record {
-            map = record { blocks = at .within .map .blocks; named = omega arith; longest = sound .allowed .longest };
+            map = record { blocks = at .within .map .blocks; longest = sound .allowed .longest };
+            named = omega arith;
             block = at .opened .root;
             below = below-any p name (at .opened);
             agrees = open-agrees p m (at .within .map) sound name (at .within .low) (at .opened);

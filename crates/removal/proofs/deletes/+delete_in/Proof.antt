@@ -13,7 +13,7 @@ use Rattle.removal.proofs.deletes.delete_in.Reads as delete-in
 use Rattle.removal.proofs.deletes.delete_in.Kinds as delete-in-kinds
 use Rattle.removal.proofs.deletes.+delete_in.Lts-delete_in as delete-in-lts
 use Rattle.blocks.proofs.leaf.delete_mark.Reads as delete-mark-reads
-use Rattle.edit.proofs.seat.find_child.Reads as find-child-reads
+use Rattle.entries.proofs.find_child.Reads as find-child-reads
 use Rattle.entries.proofs.link.Reads as link-reads
 use Rattle.removal.proofs.mends.settle.Reads as settle-reads
 use Rattle.removal.proofs.deletes.+delete_in.{statement}

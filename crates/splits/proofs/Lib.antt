@@ -1,0 +1,11 @@
+pub mod LeafSplits
+pub mod LeafInserts
+pub mod SameEntries
+pub mod EntryPuts
+pub mod BranchSplits
+pub mod Grafts
+pub mod TakeUps
+pub mod Pieces
+pub mod GoodEntries
+pub mod KeptLists
+pub mod RootGrowths

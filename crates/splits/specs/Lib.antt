@@ -1,0 +1,4 @@
+pub mod Inserts
+pub mod Entries
+pub mod Grafts
+pub mod Roots
