@@ -12,6 +12,7 @@ use hex::Reading;
 use hex::read_line;
 use hex::write_line;
 use lines::Gathered;
+use lines::first_bytes;
 use lines::gather;
 use protocol::Answer;
 use protocol::Command;
@@ -90,16 +91,6 @@ fn take_line(
         frames,
         line,
     }
-}
-
-// The first `count` bytes, or all where there are fewer.
-fn first_bytes(bytes: &[u8], count: usize) -> &[u8]
-    ensures { λ r. ⌜ now r ≡ take count (now (bytes .entry)) ⌝ }
-{
-    if bytes.len() <= count {
-        return bytes;
-    }
-    &bytes[..count]
 }
 
 // Puts a line behind so many others, of which so many are frames: a bad line's answer, or a frame among the commands and a line of zeros

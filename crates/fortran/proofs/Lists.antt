@@ -1,12 +1,12 @@
--- Facts on lists in the form that the code has them: at `i + 1`, with 0 as the default, and with a part's end spelt out.
+-- Facts on lists in the form that the code has them: at `i + 1`, and with 0 as the default.
 -- Assumes nothing.
 use mathlib.Core.Path.{_≡_, refl}
 use mathlib.Core.List.{List, [], _∷_}
-use Prim.Native.Nat.{ℕ, zero, suc, _+_, _-_, _<_}
+use Prim.Native.Nat.{ℕ, zero, suc, _+_, _<_}
 use native.Mathlib.Numerals.{add-one}
 use native.Mathlib.Omega.{arith}
-use lib.ListN.{length, getD, take, drop, length-drop}
-use lib.Seq.{drop-cons, take-all}
+use lib.ListN.{length, getD, drop}
+use lib.Seq.{drop-cons}
 
 -- one element more
 pub drop-next : (l : List ℕ) (i : ℕ) → i < length l → drop i l ≡ getD l i 0 ∷ drop (i + 1) l
@@ -18,7 +18,3 @@ getD-there [] zero d e h = absurd (omega arith)
 getD-there [] (suc i) d e h = absurd (omega arith)
 getD-there (x ∷ l) zero d e h = refl
 getD-there (x ∷ l) (suc i) d e h = getD-there l i d e (omega arith)
-
--- a part from n to the end
-pub part-to-end : (l : List ℕ) (n : ℕ) → take (length l - n) (drop n l) ≡ drop n l
-part-to-end l n = take-all (length l - n) (drop n l) (rw length-drop (omega arith))

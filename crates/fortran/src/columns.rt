@@ -1,21 +1,11 @@
 // Columns of a line: its bytes, counted from 1. A column past the line's end is blank.
 ghost use mathlib.Core.Path.{_≡_};
 ghost use Prim.Native.Nat.{_≤_};
-ghost use lib.ListN.{take, drop};
+ghost use lib.ListN.{drop};
 ghost use Rattle.fortran.specs.Mark.{column, allBlank, isOutside, anyOutside};
 
 // what a missing column is read as
 pub const BLANK: u8 = b' ';
-
-// The first `count` columns, or all where there are fewer.
-pub fn first_columns(line: &[u8], count: usize) -> &[u8]
-    ensures { λ r. ⌜ now r ≡ take count (now (line .entry)) ⌝ }
-{
-    if line.len() <= count {
-        return line;
-    }
-    &line[..count]
-}
 
 // The columns after the first `count`.
 pub fn columns_after(line: &[u8], count: usize) -> &[u8]

@@ -6,12 +6,11 @@ use columns::any_outside;
 use columns::column;
 use columns::columns_after;
 use geometry::Record;
+use lines::first_bytes;
 use words::begins;
 
 mod columns;
 mod words;
-
-pub use columns::first_columns;
 
 // The marks, by document 01's rules in their order.
 // a line with a byte that no line may have
@@ -31,7 +30,7 @@ const OTHER: u8 = 0;
 pub fn mark(line: &[u8]) -> u8
     ensures { λ r. ⌜ r ≡ markOf (now (line .entry)) ⌝ }
 {
-    mark_of_card(first_columns(line, Record::LAST_COLUMN))
+    mark_of_card(first_bytes(line, Record::LAST_COLUMN))
 }
 
 // The mark of a line whose columns are all read: that of the first rule that fits.
@@ -84,7 +83,7 @@ fn opens_comment(byte: u8) -> bool
 fn is_continuation(card: &[u8]) -> bool
     ensures { λ r. ⌜ r ≡ isContinuation (now (card .entry)) ⌝ }
 {
-    if all_blank(first_columns(card, Record::CONTINUATION_COLUMN - 1)) {
+    if all_blank(first_bytes(card, Record::CONTINUATION_COLUMN - 1)) {
         return continues(column(card, Record::CONTINUATION_COLUMN));
     }
     false

@@ -6,12 +6,12 @@ ghost use lib.ListN.{length};
 ghost use Rattle.geometry.specs.Limits.{mostMarks};
 ghost use Rattle.hex.specs.Lines.{lineSize};
 ghost use Rattle.insertions.specs.Stream.{Starts, PutsFrame, GoesOn, Ends};
-use fortran::first_columns;
 use fortran::mark;
 use geometry::Record;
 use hex::LINE_SIZE;
 use hex::write_line;
 use lines::Gathered;
+use lines::first_bytes;
 use lines::gather;
 use protocol::Command;
 
@@ -91,7 +91,7 @@ fn take_line(
     let line = gathering.line;
     if ended {
         let kept = line.kept;
-        let filled = put_frame(first_columns(keep, kept), lines, out, filled);
+        let filled = put_frame(first_bytes(keep, kept), lines, out, filled);
         return Taken {
             taken,
             filled,
@@ -118,7 +118,7 @@ pub fn finish(before: Progress, keep: &mut [u8], out: &mut [u8]) -> usize
         return 0;
     }
     let kept = line.kept;
-    put_frame(first_columns(keep, kept), before.lines, out, 0)
+    put_frame(first_bytes(keep, kept), before.lines, out, 0)
 }
 
 // Puts the frame of a line after so many others behind the `filled` bytes of out, and answers how many are filled then. Lines past the

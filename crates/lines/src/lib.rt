@@ -4,6 +4,7 @@ ghost use mathlib.Core.Bool.{Bool};
 ghost use mathlib.Core.List.{List, []};
 ghost use mathlib.Core.Path.{_≡_};
 ghost use Prim.Native.Nat.{ℕ, _+_, min};
+ghost use lib.ListN.{take};
 ghost use Rattle.lines.specs.Lines.{mostLength, Stands, Adds, Finishes, Accepts, Gathers};
 
 pub const LINE_FEED: u8 = 10;
@@ -130,4 +131,14 @@ pub fn gather(bytes: &[u8], returns: bool, before: Gathered, keep: &mut [u8]) ->
         ended: false,
         line,
     }
+}
+
+// The first `count` bytes, or all where there are fewer.
+pub fn first_bytes(bytes: &[u8], count: usize) -> &[u8]
+    ensures { λ r. ⌜ now r ≡ take count (now (bytes .entry)) ⌝ }
+{
+    if bytes.len() <= count {
+        return bytes;
+    }
+    &bytes[..count]
 }

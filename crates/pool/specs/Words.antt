@@ -40,7 +40,7 @@ pub record Copied (source : List ℕ) (from to many : ℕ) (before after : List 
   pub same : Outside to many before after
   pub copied : (j : ℕ) → j < many → byte after (to + j) ≡ byte source (from + j)
 
--- so many bytes from an address on are those that stood from another on
+-- so many bytes from an address on are those that stood from another on; the bytes outside them are as before
 abbrev pub Moved : ℕ → ℕ → ℕ → List ℕ → List ℕ → Type 0
 Moved from to many before after = Copied before from to many before after
 

@@ -4,11 +4,11 @@ use borrow.Author.Needs.{needs}
 use Rattle.fortran.proofs.is_continuation.Statement.{statement}
 use Rattle.fortran.proofs.is_continuation.Tie as tie
 
-sub-first-columns : tie.Need-sub-first-columns
-sub-first-columns c = search needs
+sub-first-bytes : tie.Need-sub-first-bytes
+sub-first-bytes c = search needs
 
-first-columns-requires : tie.Need-first-columns-requires
-first-columns-requires c κs = search needs
+first-bytes-requires : tie.Need-first-bytes-requires
+first-bytes-requires c κs = search needs
 
 all-blank-requires : tie.Need-all-blank-requires
 all-blank-requires c κs = search needs
@@ -22,7 +22,7 @@ continues-requires c κs = search needs
 returns : tie.Need-returns
 returns c =
     rw (
-      ← c .before .before .before .before .first-columns .ensures,
+      ← c .before .before .before .before .first-bytes .ensures,
       ← c .before .before .before .all-blank .ensures,
       c .before .before .if1 .taken,
       ← c .before .column .ensures,
@@ -30,14 +30,14 @@ returns c =
     (c .continues .ensures)
 
 returns-2 : tie.Need-returns-2
-returns-2 c = rw (← c .before .before .first-columns .ensures, ← c .before .all-blank .ensures, c .if1 .left)
+returns-2 c = rw (← c .before .before .first-bytes .ensures, ← c .before .all-blank .ensures, c .if1 .left)
 
 pub is-continuation-spec : {M : Type 1} → statement M
 is-continuation-spec =
     tie.close
     (tie.spec
-    sub-first-columns
-    first-columns-requires
+    sub-first-bytes
+    first-bytes-requires
     all-blank-requires
     column-requires
     continues-requires

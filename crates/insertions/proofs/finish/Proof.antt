@@ -14,8 +14,8 @@ same-length c = search needs
 returns : tie.Need-returns
 returns c = search ends-whole
 
-first-columns-requires : tie.Need-first-columns-requires
-first-columns-requires c κs = search needs
+first-bytes-requires : tie.Need-first-bytes-requires
+first-bytes-requires c κs = search needs
 
 put-frame-requires : tie.Need-put-frame-requires
 put-frame-requires c κs = search needs
@@ -31,7 +31,7 @@ returns-2 c =
     let finished = c .before .before .before .before .before .before .before .before .before .before in
     ends-open _ _ _ _ _ (finished .finish .result) (finished .finish .ensures) _ _
     (c .before .before .before .before .before .before .if1 .left)
-    (c .before .before .before .before .first-columns .ensures)
+    (c .before .before .before .before .first-bytes .ensures)
     (c .before .before .put-frame .ensures)
 
 pub finish-spec : {M : Type 1} → statement M
@@ -41,7 +41,7 @@ finish-spec =
     finish-requires
     same-length
     returns
-    first-columns-requires
+    first-bytes-requires
     put-frame-requires
     same-length-2
     same-length-3

@@ -8,8 +8,8 @@ use Rattle.insertions.proofs.take_line.Tie as tie
 gather-requires : tie.Need-gather-requires
 gather-requires c κs = search needs
 
-first-columns-requires : tie.Need-first-columns-requires
-first-columns-requires c κs = search needs
+first-bytes-requires : tie.Need-first-bytes-requires
+first-bytes-requires c κs = search needs
 
 put-frame-requires : tie.Need-put-frame-requires
 put-frame-requires c κs = search needs
@@ -33,7 +33,7 @@ returns c =
     line-taken _ _ _ _ _ _ _ (gathered .gather .result) (gathered .gather .ensures) _ _ _ _
     (c .before .start .ensures)
     (c .before .before .before .before .before .before .before .before .if1 .taken)
-    (c .before .before .before .before .before .before .first-columns .ensures)
+    (c .before .before .before .before .before .before .first-bytes .ensures)
     (put .put-frame .ensures)
     (c .one-more .ensures)
 
@@ -48,7 +48,7 @@ take-line-spec =
     tie.close
     (tie.spec
     gather-requires
-    first-columns-requires
+    first-bytes-requires
     put-frame-requires
     start-requires
     one-more-requires

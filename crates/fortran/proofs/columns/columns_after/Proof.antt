@@ -3,7 +3,7 @@
 use borrow.Author.Needs.{needs}
 use lib.ListN.{drop-of-length-le}
 use lib.Seq.{drop-length}
-use Rattle.fortran.proofs.Lists.{part-to-end}
+use Rattle.lines.proofs.Chunks.{rest-is}
 use Rattle.fortran.proofs.columns.columns_after.Statement.{statement}
 use Rattle.fortran.proofs.columns.columns_after.Tie as tie
 
@@ -17,7 +17,7 @@ part-result-end : tie.Need-part-result-end
 part-result-end c = search needs
 
 returns : tie.Need-returns
-returns c = rw (part-to-end, drop-length, drop-of-length-le _ (c .before .if1 .taken))
+returns c = rw (rest-is, drop-length, drop-of-length-le _ (c .before .if1 .taken))
 
 sub-result-2 : tie.Need-sub-result-2
 sub-result-2 c = search needs
@@ -29,7 +29,7 @@ part-result-end-2 : tie.Need-part-result-end-2
 part-result-end-2 c = search needs
 
 returns-2 : tie.Need-returns-2
-returns-2 c = rw part-to-end
+returns-2 c = rw rest-is
 
 pub columns-after-spec : {M : Type 1} → statement M
 columns-after-spec =

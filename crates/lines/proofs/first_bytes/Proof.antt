@@ -1,10 +1,10 @@
--- `batches::first_bytes` meets its contract: the whole of a short slice is its first bytes, and a part from the start is a `take`.
+-- `lines::first_bytes` meets its contract: the whole of a short slice is its first bytes, and a part from the start is a `take`.
 -- Assumes nothing.
 use mathlib.Core.Path.{sym}
 use borrow.Author.Needs.{needs}
 use lib.Seq.{take-all, length-take-le}
-use Rattle.batches.proofs.first_bytes.Statement.{statement}
-use Rattle.batches.proofs.first_bytes.Tie as tie
+use Rattle.lines.proofs.first_bytes.Statement.{statement}
+use Rattle.lines.proofs.first_bytes.Tie as tie
 
 returns : tie.Need-returns
 returns c = sym (take-all _ _ (c .if1 .taken))
