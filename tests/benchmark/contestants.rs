@@ -1,13 +1,15 @@
 //! The library and the twin behind their C interfaces, and the rope behind its own.
 
+#[path = "../interface.rs"]
+mod interface;
+
+use interface::{forfochry_format, forfochry_run};
 use std::ffi::c_void;
 
 pub type Format = unsafe extern "C" fn(*mut u8, usize) -> u32;
 pub type Run = unsafe extern "C" fn(*mut u8, usize, *const u8, usize, *mut u8, usize) -> u64;
 
 unsafe extern "C" {
-    fn forfochry_format(pool: *mut u8, pool_len: usize) -> u32;
-    fn forfochry_run(p: *mut u8, pn: usize, c: *const u8, cn: usize, a: *mut u8, an: usize) -> u64;
     fn twin_format(pool: *mut u8, pool_len: usize) -> u32;
     fn twin_run(p: *mut u8, pn: usize, c: *const u8, cn: usize, a: *mut u8, an: usize) -> u64;
     fn rope_of(marks: *const u8, many: usize) -> *mut c_void;

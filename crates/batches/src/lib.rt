@@ -2,7 +2,7 @@
 // of its answer until the call has been made.
 ghost use mathlib.Core.Path.{_≡_};
 ghost use Prim.Native.Nat.{_+_, _*_, _≤_};
-ghost use lib.ListN.{length, getD, take};
+ghost use lib.ListN.{length, getD};
 ghost use Rattle.geometry.specs.Limits.{frameSize};
 ghost use Rattle.hex.specs.Lines.{lineSize};
 ghost use Rattle.batches.specs.Batch.{PutsLine, ReadsOn, PutsAnswer, Completes, BatchRead, RoomForLine, keptByte, keptIn};
