@@ -1,7 +1,7 @@
 #!/usr/bin/env python3
-"""Builds the pools that `sound_cases` checks, sound ones and ones with one fault each, both sides of each limit, and its verdicts.
+"""Builds the pools that `pool_check_cases` checks, sound ones and ones with one fault each, both sides of each limit, and its verdicts.
 
-    tests/damaged_pools.py --write    write crates/sound_cases/stdin and stdout
+    tests/damaged_pools.py --write    write crates/pool_check_cases/stdin and stdout
     tests/damaged_pools.py            exit 1 unless the stored files are what would be written
 
 Nothing here is shared with the code under test: a pool is built from docs/LAYOUT.md by its own few functions.
@@ -193,5 +193,5 @@ def built():
     return {"stdin": stdin, "stdout": stdout.encode()}
 
 
-stored.hold("sound_cases", built(), sys.argv[1:], __doc__)
+stored.hold("pool_check_cases", built(), sys.argv[1:], __doc__)
 print("tests/damaged_pools.py: the stored files are as they should be")

@@ -1,7 +1,7 @@
 #!/usr/bin/env python3
-"""Builds the pool that `query_cases` asks, from docs/LAYOUT.md alone, and the marks and depths that it should answer.
+"""Builds the pool that `tree_query_cases` asks, from docs/LAYOUT.md alone, and the marks and depths that it should answer.
 
-    tests/query_pool.py --write    write crates/query_cases/stdin and stdout
+    tests/query_pool.py --write    write crates/tree_query_cases/stdin and stdout
     tests/query_pool.py            exit 1 unless the stored files are what would be written
 """
 import sys
@@ -100,5 +100,5 @@ def built():
     return {"stdin": stdin, "stdout": out}
 
 
-stored.hold("query_cases", built(), sys.argv[1:], __doc__)
+stored.hold("tree_query_cases", built(), sys.argv[1:], __doc__)
 print("tests/query_pool.py: the stored files are as they should be")

@@ -1,11 +1,11 @@
 // The first program: reads frames from standard input, one as hexadecimal on each line, and writes an answer line for each.
-// The crate `sessions` has the work, with its proofs; here bytes are only read and written.
+// The crate `program_sessions` has the work, with its proofs; here bytes are only read and written.
 use geometry::Record;
-use hex::LINE_SIZE;
 use libc::STDERR_FILENO;
 use libc::STDIN_FILENO;
 use libc::STDOUT_FILENO;
-use lines::Gathered;
+use text_hex::LINE_SIZE;
+use text_lines::Gathered;
 
 // What came of one read.
 enum Round {
@@ -21,7 +21,7 @@ enum Round {
 fn main() {
     let mut keep = [0u8; LINE_SIZE];
     let mut pool = [0u8; Record::PROGRAM_POOL];
-    let mut line = sessions::start(&mut pool);
+    let mut line = program_sessions::start(&mut pool);
     let mut turns = u64::MAX;
     while turns > 0 {
         match answer_once(line, &mut keep, &mut pool) {
@@ -61,7 +61,7 @@ fn answer_chunk(chunk: &[u8], before: Gathered, keep: &mut [u8], pool: &mut [u8]
     let mut line = before;
     let mut at = 0;
     while at < chunk.len() {
-        let taken = sessions::take_in(&chunk[at..], line, keep, pool, &mut out);
+        let taken = program_sessions::take_in(&chunk[at..], line, keep, pool, &mut out);
         let filled = taken.filled;
         if !write_out(&out[..filled]) {
             return Round::Failed;
@@ -75,7 +75,7 @@ fn answer_chunk(chunk: &[u8], before: Gathered, keep: &mut [u8], pool: &mut [u8]
 // Answers a last line without a line feed.
 fn answer_last(line: Gathered, keep: &mut [u8], pool: &mut [u8]) {
     let mut out = [0u8; LINE_SIZE];
-    let filled = sessions::finish(line, keep, pool, &mut out);
+    let filled = program_sessions::finish(line, keep, pool, &mut out);
     write_out(&out[..filled]);
 }
 

@@ -8,12 +8,12 @@ use native.Mathlib.Omega.{arith}
 use lib.ListN.{length, drop, length-append, length-drop}
 use lib.Seq.{take-at, drop-at}
 use Rattle.geometry.specs.Limits.{frameSize}
-use Rattle.index.proofs.Cutting.{commands-many}
-use Rattle.index.proofs.Following.{runs-many, runs-long, runs-sound}
-use Rattle.index.proofs.Outcomes.{Passed, all-passed}
-use Rattle.index.specs.Calls.{Ran}
-use Rattle.index.specs.Runs.{Runs, eights, commandsIn}
-use Rattle.calls.specs.declared.Outcome.{Outcome}
+use Rattle.call_run.proofs.Cutting.{commands-many}
+use Rattle.call_run.proofs.Following.{runs-many, runs-long, runs-sound}
+use Rattle.call_run.proofs.Outcomes.{Passed, all-passed}
+use Rattle.call_run.specs.Calls.{Ran}
+use Rattle.call_run.specs.Runs.{Runs, eights, commandsIn}
+use Rattle.call_tests.specs.declared.Outcome.{Outcome}
 use Rattle.pool.specs.Sound.{Sound}
 use Rattle.protocol.proofs.Bytes.{length-of-answer}
 use Rattle.protocol.specs.Frames.{bytesOfAnswer}

@@ -7,7 +7,7 @@ use native.Mathlib.Omega.{arith}
 use lib.ListN.{length, take, drop, length-append}
 use lib.Seq.{take-at, drop-at}
 use Rattle.geometry.specs.Limits.{frameSize}
-use Rattle.index.specs.Runs.{eights}
+use Rattle.call_run.specs.Runs.{eights}
 use Rattle.pool.specs.Bytes.{from}
 use Rattle.shape.specs.Nested.{joined}
 

@@ -10,13 +10,13 @@ use native.Mathlib.Nat.{eq-zero-or-pos}
 use native.Mathlib.Omega.{arith}
 use lib.ListN.{length, length-map}
 use Rattle.forfochry.proofs.mark.Met as MarkMet
-use Rattle.fortran.specs.Mark.{markOf, firstThatFits, rules, card}
+use Rattle.text_fixed_form.specs.Mark.{markOf, firstThatFits, rules, card}
 use Rattle.forfochry.proofs.format.Met as FormatMet
 use Rattle.forfochry.proofs.run.Met as RunMet
-use Rattle.index.proofs.Outcomes.{length-cases, same-outcome}
-use Rattle.index.specs.Calls.{Formats, Ran}
-use Rattle.index.specs.Runs.{commandsIn}
-use Rattle.calls.specs.declared.Outcome.{Outcome}
+use Rattle.call_run.proofs.Outcomes.{length-cases, same-outcome}
+use Rattle.call_run.specs.Calls.{Formats, Ran}
+use Rattle.call_run.specs.Runs.{commandsIn}
+use Rattle.call_tests.specs.declared.Outcome.{Outcome}
 use Rattle.machine.specs.Machine.{trees}
 use Rattle.pool.specs.Meaning.{meaning}
 use Rattle.protocol.proofs.Replies.{refused-answers-zeros}

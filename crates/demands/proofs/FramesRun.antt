@@ -3,8 +3,8 @@
 use mathlib.Core.Path.{_≡_, refl, sym, ap, _∙_}
 use mathlib.Core.List.{List, [], _∷_, map}
 use Prim.Native.Nat.{ℕ}
-use Rattle.frames.specs.Steps.{Step}
-use Rattle.index.specs.Runs.{Runs}
+use Rattle.frame_execute.specs.Steps.{Step}
+use Rattle.call_run.specs.Runs.{Runs}
 use Rattle.pool.specs.Sound.{Sound}
 use Rattle.protocol.specs.declared.Answer.{Answer}
 use Rattle.protocol.specs.declared.Command.{Command}

@@ -7,7 +7,7 @@ use Prim.Native.Nat.{ℕ, _-_, _/_, _<_}
 use native.Mathlib.Omega.{arith}
 use lib.ListN.{length}
 use Rattle.geometry.specs.Limits.{names, blockSize, directorySize}
-use Rattle.index.proofs.Outcomes.{length-cases}
+use Rattle.call_run.proofs.Outcomes.{length-cases}
 use Rattle.machine.specs.Machine.{trees}
 use Rattle.pool.proofs.FormattedSound.{length-formatted, formatted-sound, formatted-meaning}
 use Rattle.pool.proofs.Meanings.{part-meaning}

@@ -9,7 +9,7 @@ use Prim.Native.Nat.{ℕ, _<_}
 use native.Mathlib.Omega.{arith}
 use borrow.Author.Tests.{eqb-true, eqb-false}
 use Rattle.geometry.specs.Limits.{names}
-use Rattle.index.specs.Runs.{Runs, commandsIn}
+use Rattle.call_run.specs.Runs.{Runs, commandsIn}
 use Rattle.machine.proofs.OwnParts.{reply-at, others-stay, opening-starts-afresh}
 use Rattle.machine.specs.Machine.{trees}
 use Rattle.machine.specs.OneName.{beside, isTo, isOpening, framesTo}

@@ -4,9 +4,9 @@ use mathlib.Core.Path.{_≡_}
 use mathlib.Core.List.{List, [], _∷_, _++_}
 use Prim.Native.Nat.{ℕ}
 use lib.ListN.{length, take}
-use Rattle.index.specs.Calls.{Formats, Ran}
-use Rattle.index.specs.Runs.{Runs, eights, commandsIn}
-use Rattle.calls.specs.declared.Outcome.{Outcome}
+use Rattle.call_run.specs.Calls.{Formats, Ran}
+use Rattle.call_run.specs.Runs.{Runs, eights, commandsIn}
+use Rattle.call_tests.specs.declared.Outcome.{Outcome}
 use Rattle.protocol.specs.declared.Answer.{Answer}
 use Rattle.protocol.specs.declared.Command.{Command}
 

@@ -15,7 +15,7 @@ use denote.Triple.Clauses.{AtExit}
 use Rattle.forfochry.proofs.mark as mark
 use Rattle.forfochry.proofs.mark.Reads as MarkReads
 use Rattle.forfochry.proofs.mark.Statement as Mark
-use Rattle.fortran.specs.Mark.{markOf}
+use Rattle.text_fixed_form.specs.Mark.{markOf}
 use Rattle.geometry.specs.Limits.{frameSize}
 use Rattle.forfochry.proofs.format as format
 use Rattle.forfochry.proofs.format.Reads as FormatReads
@@ -23,11 +23,11 @@ use Rattle.forfochry.proofs.format.Statement as Format
 use Rattle.forfochry.proofs.run as run
 use Rattle.forfochry.proofs.run.Reads as RunReads
 use Rattle.forfochry.proofs.run.Statement as Run
-use Rattle.index.specs.Alike.{SameOutcome}
-use Rattle.calls.specs.Tests.{StatusOfCall}
-use Rattle.index.specs.Calls.{Formats, Ran}
-use Rattle.index.specs.Runs.{commandsIn}
-use Rattle.calls.specs.declared.Outcome.{Outcome}
+use Rattle.call_run.specs.Alike.{SameOutcome}
+use Rattle.call_tests.specs.Tests.{StatusOfCall}
+use Rattle.call_run.specs.Calls.{Formats, Ran}
+use Rattle.call_run.specs.Runs.{commandsIn}
+use Rattle.call_tests.specs.declared.Outcome.{Outcome}
 use Rattle.pool.specs.Formatted.{formatted}
 use Rattle.pool.specs.Sound.{LengthAllowed}
 use Rattle.protocol.specs.Frames.{bytesOfAnswer}

@@ -8,8 +8,8 @@ use mathlib.Core.Logic.{_↔_, _≢_}
 use Prim.Native.Nat.{ℕ, _+_, _-_, _*_, _≤_, _<_}
 use lib.ListN.{length, getD, take}
 use Rattle.geometry.specs.Limits.{marksPerShare}
-use Rattle.index.specs.Calls.{Ran}
-use Rattle.calls.specs.declared.Outcome.{Outcome}
+use Rattle.call_run.specs.Calls.{Ran}
+use Rattle.call_tests.specs.declared.Outcome.{Outcome}
 use Rattle.machine.specs.Machine.{trees}
 use Rattle.pool.specs.Blocks.{entries, leafMarks, link}
 use Rattle.pool.specs.Bytes.{shares}

@@ -9,8 +9,8 @@ use mathlib.Core.Logic.{_≢_}
 use Prim.Native.Nat.{ℕ, _<_}
 use lib.ListN.{getD}
 use Rattle.geometry.specs.Limits.{names}
-use Rattle.index.specs.Calls.{Ran}
-use Rattle.calls.specs.declared.Outcome.{Outcome}
+use Rattle.call_run.specs.Calls.{Ran}
+use Rattle.call_tests.specs.declared.Outcome.{Outcome}
 use Rattle.machine.specs.Machine.{trees}
 use Rattle.machine.specs.OneName.{beside, isTo, isOpening, framesTo}
 use Rattle.pool.specs.Meaning.{meaningOf}

@@ -4,8 +4,8 @@ use mathlib.Core.Path.{_≡_, ap₂}
 use mathlib.Core.List.{List}
 use Prim.Native.Nat.{ℕ, _+_, _*_, _/_, _%_, _^_, _<_}
 use native.Mathlib.Omega.{arith}
-use Rattle.index.specs.Calls.{Ran}
-use Rattle.calls.specs.declared.Outcome.{Outcome}
+use Rattle.call_run.specs.Calls.{Ran}
+use Rattle.call_tests.specs.declared.Outcome.{Outcome}
 use Rattle.forfochry.specs.Numbers.{outcomeOf}
 
 pub halves-are : (o : Outcome) → o .count < 2 ^ 32 → outcomeOf (o .status * 4294967296 + o .count) ≡ o

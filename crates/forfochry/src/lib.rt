@@ -2,9 +2,9 @@
 // include/forfochry.h.
 ghost use mathlib.Core.Path.{_≡_};
 ghost use Rattle.forfochry.specs.Numbers.{outcomeOf};
-ghost use Rattle.fortran.specs.Mark.{markOf};
-ghost use Rattle.index.specs.Calls.{Formats, Ran};
-use calls::Outcome;
+ghost use Rattle.text_fixed_form.specs.Mark.{markOf};
+ghost use Rattle.call_run.specs.Calls.{Formats, Ran};
+use call_tests::Outcome;
 
 // what one in the upper half of a number of 64 bits counts
 const UPPER_HALF: u64 = 4294967296;
@@ -13,7 +13,7 @@ const UPPER_HALF: u64 = 4294967296;
 pub fn format(pool: &mut [u8]) -> u32
     ensures { λ r. ⌜ Formats (now (pool .entry)) r (now (pool .exit)) ⌝ }
 {
-    index::format(pool)
+    call_run::format(pool)
 }
 
 // Runs the command frames in order and writes one answer each, or refuses the call and changes nothing.
@@ -21,21 +21,21 @@ pub fn run(pool: &mut [u8], commands: &[u8], answers: &mut [u8]) -> Outcome
     ensures { λ r.
         ⌜ Ran (now (pool .entry)) (now (commands .entry)) (now (answers .entry)) r (now (pool .exit)) (now (answers .exit)) ⌝ }
 {
-    index::run(pool, commands, answers)
+    call_run::run(pool, commands, answers)
 }
 
 // The mark of a line of fixed-form Fortran, given without its line end.
 pub fn mark(line: &[u8]) -> u8
     ensures { λ r. ⌜ r ≡ markOf (now (line .entry)) ⌝ }
 {
-    fortran::mark(line)
+    text_fixed_form::mark(line)
 }
 
 #[no_mangle]
 pub extern "C" fn forfochry_format(pool: &mut [u8]) -> u32
     ensures { λ r. ⌜ Formats (now (pool .entry)) r (now (pool .exit)) ⌝ }
 {
-    index::format(pool)
+    call_run::format(pool)
 }
 
 // The status in the upper half of the number, the count of frames run in the lower.
@@ -44,14 +44,14 @@ pub extern "C" fn forfochry_run(pool: &mut [u8], commands: &[u8], answers: &mut 
     ensures { λ r.
         ⌜ Ran (now (pool .entry)) (now (commands .entry)) (now (answers .entry)) (outcomeOf r) (now (pool .exit)) (now (answers .exit)) ⌝ }
 {
-    number(index::run(pool, commands, answers))
+    number(call_run::run(pool, commands, answers))
 }
 
 #[no_mangle]
 pub extern "C" fn forfochry_mark(line: &[u8]) -> u8
     ensures { λ r. ⌜ r ≡ markOf (now (line .entry)) ⌝ }
 {
-    fortran::mark(line)
+    text_fixed_form::mark(line)
 }
 
 // The outcome as one number, as `outcomeOf` reads it.

@@ -1,13 +1,13 @@
 // The second program: reads a Fortran file from standard input and writes the insert frame of each line's mark, one a line.
-// The crate `insertions` has the work, with its proofs; here bytes are only read and written.
+// The crate `program_insertions` has the work, with its proofs; here bytes are only read and written.
 ghost use Prim.Native.Nat.{_≤_};
 ghost use lib.ListN.{length};
-ghost use Rattle.hex.specs.Lines.{lineSize};
+ghost use Rattle.text_hex.specs.Lines.{lineSize};
 use geometry::Record;
-use insertions::Progress;
 use libc::STDERR_FILENO;
 use libc::STDIN_FILENO;
 use libc::STDOUT_FILENO;
+use program_insertions::Progress;
 
 // What came of one read.
 enum Round {
@@ -72,7 +72,7 @@ fn write_frames(chunk: &[u8], before: Progress, keep: &mut [u8], out: &mut [u8])
     let mut progress = before;
     let mut at = 0;
     while at < chunk.len() {
-        let taken = insertions::take_in(&chunk[at..], progress, keep, out);
+        let taken = program_insertions::take_in(&chunk[at..], progress, keep, out);
         let filled = taken.filled;
         if !write_out(&out[..filled]) {
             return Round::Failed;
@@ -87,7 +87,7 @@ fn write_frames(chunk: &[u8], before: Progress, keep: &mut [u8], out: &mut [u8])
 fn write_last(progress: Progress, keep: &mut [u8], out: &mut [u8])
     requires { ⌜ lineSize ≤ length (now out) ⌝ }
 {
-    let filled = insertions::finish(progress, keep, out);
+    let filled = program_insertions::finish(progress, keep, out);
     write_out(&out[..filled]);
 }
 

@@ -4,7 +4,7 @@ use mathlib.Core.Path.{_≡_}
 use Prim.Native.Nat.{_≤_}
 use borrow.Author.Needs.{needs}
 use lib.ListN.{length}
-use Rattle.hex.specs.Lines.{lineSize}
+use Rattle.text_hex.specs.Lines.{lineSize}
 use Rattle.marks.proofs.read_all.Statement.{statement}
 use Rattle.marks.proofs.read_all.Tie as tie
 

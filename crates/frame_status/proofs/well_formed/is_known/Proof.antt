@@ -1,0 +1,14 @@
+-- `frame_status::well_formed::is_known` meets its contract: the codes of the table are 1 to 9.
+-- Assumes nothing.
+use Rattle.frame_status.proofs.Codes.{low-unknown, known-up-to}
+use Rattle.frame_status.proofs.well_formed.is_known.Statement.{statement}
+use Rattle.frame_status.proofs.well_formed.is_known.Tie as tie
+
+returns : tie.Need-returns
+returns c = search low-unknown
+
+returns-2 : tie.Need-returns-2
+returns-2 c = search known-up-to
+
+pub is-known-spec : {M : Type 1} → statement M
+is-known-spec = tie.close (tie.spec returns returns-2)

@@ -1,0 +1,52 @@
+-- `pool_check::directory::all_zero` meets its contract. The loop's invariant: `clean` says exactly whether the bytes passed are 0.
+-- Assumes nothing.
+use borrow.Author.Needs.{needs}
+use mathlib.Core.Logic.{⊎-elim}
+use Prim.Native.Nat.{_+_, _-_, _≤_}
+use lib.ListN.{length}
+use Rattle.pool_check.specs.Parts.{Zeros}
+use Rattle.pool_check.specs.Says.{Says}
+use Rattle.pool_check.proofs.Stretches.{zeros-none, zeros-more, zeros-all, zeros-not}
+use Rattle.pool_check.proofs.directory.all_zero.Statement.{statement}
+use Rattle.pool_check.proofs.directory.all_zero.Tie as tie
+
+abbrev Inv-loop : tie.InvT-loop
+Inv-loop pool at many clean₀ i₀ clean i = (i ≤ many) × (at + many ≤ length pool) × Says clean (Zeros pool at i)
+
+abbrev μ-loop : tie.MeasureT-loop
+μ-loop pool at many clean₀ i₀ clean i = many - i
+
+loop-holds : tie.Need-loop-holds Inv-loop μ-loop
+loop-holds c = (search needs, search needs, search zeros-none)
+
+add-if1 : tie.Need-add-if1 Inv-loop μ-loop
+add-if1 c = search needs
+
+shared-slice-read-if1 : tie.Need-shared-slice-read-if1 Inv-loop μ-loop
+shared-slice-read-if1 c = search needs
+
+add-i : tie.Need-add-i Inv-loop μ-loop
+add-i c = search needs
+
+loop-less : tie.Need-loop-less Inv-loop μ-loop
+loop-less c = search needs
+
+loop-again : tie.Need-loop-again Inv-loop μ-loop
+loop-again c = (search needs, search needs, ⊎-elim (λ w. search zeros-not) (λ w. search zeros-more) (c .if1 .came))
+
+returns : tie.Need-returns Inv-loop μ-loop
+returns c = search zeros-all
+
+pub all-zero-spec : {M : Type 1} → statement M
+all-zero-spec =
+    tie.close
+    (tie.spec
+    Inv-loop
+    μ-loop
+    loop-holds
+    add-if1
+    shared-slice-read-if1
+    add-i
+    loop-less
+    loop-again
+    returns)

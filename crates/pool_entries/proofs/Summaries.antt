@@ -1,0 +1,93 @@
+-- A block's summary: from what a leaf counts and a branch adds up, and at any level.
+-- Assumes nothing.
+use mathlib.Core.Path.{_≡_, refl, ap, _∙_}
+use mathlib.Core.List.{List}
+use Prim.Native.Nat.{ℕ, zero, suc, _+_, _-_, _*_, _≤_, _<_}
+use native.Mathlib.Omega.{arith}
+use lib.ListN.{length, take, drop}
+use Rattle.geometry.specs.Layout.{entryMarksAt, entryCountsAt, mostLeaf, mostBranch, wordSize}
+use Rattle.geometry.specs.Limits.{mostAlphabet}
+use Rattle.pool.specs.Blocks.{entries, leafMarks, countBelow}
+use Rattle.pool.specs.Bytes.{blockAt}
+use Rattle.pool.specs.Trees.{ownMarks, ownCount}
+use Rattle.pool.specs.Words.{wordLimit}
+use Rattle.sequence.proofs.Counts.{count-take-le, count-le-length}
+use Rattle.sequence.specs.Alphabet.{sumBelow}
+use Rattle.sequence.specs.Definition1.{count}
+use Rattle.shape.specs.Sizes.{oneToAByte, most}
+use Rattle.pool_entries.specs.Summaries.{Is, wordsAt, SummaryOf, SmallSums}
+use Rattle.pool_entries.specs.declared.Summary.{Summary}
+use Rattle.pool_entries.proofs.Filling.{Filled, fill-all}
+use Rattle.pool_entries.proofs.Totals.{sum-counts}
+
+-- marks, and all counts filled in
+pub summary-full : (p : List ℕ) (h b marks c : ℕ) (counts : List ℕ) → marks ≡ ownMarks p h b → Filled (ownCount p h b) c counts → mostAlphabet ≤ c
+    → SummaryOf p h b (record { marks = marks; counts = counts })
+summary-full p h b marks c counts so filled end = record { marks = so; counts = fill-all (ownCount p h b) c counts filled end }
+
+-- a leaf's count of a symbol, in the stretch of its marks
+pub leaf-count : (p : List ℕ) (b many c met : ℕ) → Is (entries p b) many
+    → met ≡ count c (take (blockAt b + many - blockAt b) (drop (blockAt b) p))
+    → met ≡ ownCount p 0 b c
+unfolding leafMarks
+leaf-count p b many c met size counted =
+    let e : blockAt b + many - blockAt b ≡ entries p b = omega (arith, size .is) in
+    counted ∙ ap (λ (n : ℕ). count c (take n (drop (blockAt b) p))) e
+
+-- a branch's marks and its count of a symbol, the sums of words of its entries
+module _ (p : List ℕ) (b many : ℕ) (size : Is (entries p b) many) where
+  pub branch-marks : (marks : ℕ) → marks ≡ sumBelow many (wordsAt p b entryMarksAt) → marks ≡ ownMarks p 1 b
+  branch-marks marks added = added ∙ ap (λ (n : ℕ). sumBelow n (wordsAt p b entryMarksAt)) (size .is)
+
+  pub branch-count : (c met : ℕ) → met ≡ sumBelow many (wordsAt p b (entryCountsAt + wordSize * c)) → met ≡ ownCount p 1 b c
+  branch-count c met added = added ∙ sum-counts p b c many ∙ ap (λ (n : ℕ). sumBelow n (λ k. countBelow p b k c)) (size .is)
+
+-- they fit words where they are small
+module _ (p : List ℕ) (h b : ℕ) (small : SmallSums p h b) where
+  pub marks-fit : (marks : ℕ) → marks ≡ ownMarks p h b → marks < wordLimit
+  marks-fit marks so = omega (arith, small .marks)
+
+  pub count-fits : (c met : ℕ) → c < mostAlphabet → met ≡ ownCount p h b c → met < wordLimit
+  count-fits c met inside so = omega (arith, small .counts c inside)
+
+-- they are small where they are the length and the counts of a list that is short enough
+pub small-sums : (p : List ℕ) (h b : ℕ) (marks : List ℕ) → ownMarks p h b ≡ length marks
+    → ((c : ℕ) → c < mostAlphabet → ownCount p h b c ≡ count c marks)
+    → length marks < wordLimit
+    → SmallSums p h b
+small-sums p h b marks all each short =
+    record {
+      marks = omega arith;
+      counts = λ c inside. omega (arith, each c inside, count-le-length c marks);
+    }
+
+-- and in a leaf, which is short
+pub leaf-small : (p : List ℕ) (b : ℕ) → entries p b ≤ mostLeaf → SmallSums p 0 b
+unfolding leafMarks
+leaf-small p b fits =
+    record {
+      marks = omega arith;
+      counts = λ c inside. omega (arith, count-take-le c (entries p b) (drop (blockAt b) p));
+    }
+
+-- what is asked and told at a level that the code tested: of a leaf
+pub leaf-size : (p : List ℕ) (level b : ℕ) → level ≡ 0 → entries p b ≤ most oneToAByte level → entries p b ≤ mostLeaf
+leaf-size p zero b leaf fits = fits
+leaf-size p (suc h) b leaf fits = absurd (omega arith)
+
+pub leaf-level : (p : List ℕ) (level b : ℕ) (r : Summary) → level ≡ 0 → SummaryOf p 0 b r → SummaryOf p level b r
+leaf-level p zero b r leaf s = s
+leaf-level p (suc h) b r leaf s = absurd (omega arith)
+
+-- and of a branch
+pub branch-size : (p : List ℕ) (level b : ℕ) → (level ≡ 0 → ⊥) → entries p b ≤ most oneToAByte level → entries p b ≤ mostBranch
+branch-size p zero b branch fits = absurd (branch refl)
+branch-size p (suc h) b branch fits = fits
+
+pub branch-small : (p : List ℕ) (level b : ℕ) → (level ≡ 0 → ⊥) → SmallSums p level b → SmallSums p 1 b
+branch-small p zero b branch small = absurd (branch refl)
+branch-small p (suc h) b branch small = record { marks = small .marks; counts = small .counts }
+
+pub branch-level : (p : List ℕ) (level b : ℕ) (r : Summary) → (level ≡ 0 → ⊥) → SummaryOf p 1 b r → SummaryOf p level b r
+branch-level p zero b r branch s = absurd (branch refl)
+branch-level p (suc h) b r branch s = record { marks = s .marks; counts = s .counts }

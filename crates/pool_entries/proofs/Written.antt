@@ -1,0 +1,81 @@
+-- The stores that write an entry, or adjust it by a mark.
+-- Assumes nothing.
+use mathlib.Core.Path.{_≡_, _∙_}
+use mathlib.Core.List.{List}
+use Prim.Native.Nat.{ℕ, _+_, _*_, _≤_, _<_}
+use native.Mathlib.Omega.{arith}
+use borrow.Author.Count.{below-none, below-more}
+use lib.ListN.{getD}
+use Rattle.geometry.specs.Layout.{entrySize, entryMarksAt, entryCountsAt, wordSize}
+use Rattle.geometry.specs.Limits.{mostAlphabet}
+use Rattle.pool.proofs.Changed.{outside-none, outside-then, outside-wider, word-before, word-behind}
+use Rattle.pool.specs.Blocks.{entryAt, countBelow}
+use Rattle.pool.specs.Bytes.{word}
+use Rattle.pool.specs.Words.{PutWord}
+use Rattle.shape.proofs.Choice.{by-leb}
+use Rattle.pool_entries.specs.Entries.{PutCounts, PutEntry, PutMark}
+use Rattle.pool_entries.specs.declared.Summary.{Summary}
+
+-- counts put one after the other
+module _ (at : ℕ) (counts p : List ℕ) where
+  pub counts-none : PutCounts at 0 counts p p
+  counts-none = record { same = outside-none at 0 p; put = below-none (λ c. word p (at + wordSize * c) ≡ getD counts c 0) }
+
+  pub counts-more : (many : ℕ) (q r : List ℕ) → PutCounts at many counts p q → PutWord (at + wordSize * many) (getD counts many 0) q r
+      → PutCounts at (many + 1) counts p r
+  counts-more many q r done one =
+      record {
+        same =
+            outside-then (outside-wider at (wordSize * (many + 1)) (omega arith) (omega arith) (done .same))
+            (outside-wider at (wordSize * (many + 1)) (omega arith) (omega arith) (one .same));
+        put =
+            below-more (λ c. word r (at + wordSize * c) ≡ getD counts c 0) many
+            (λ c h. word-before (one .same) (at + wordSize * c) (omega arith) ∙ done .put c h)
+            (one .put);
+      }
+
+  pub counts-all : (most many : ℕ) (q : List ℕ) → PutCounts at many counts p q → many ≤ most → most ≤ many → PutCounts at most counts p q
+  counts-all most many q done few end = let e : most ≡ many = omega arith in rw e done
+
+-- link, marks and counts make an entry
+pub entry-put : (b k child : ℕ) (summary : Summary) (p q r s : List ℕ) → PutWord (entryAt b k) child p q
+    → PutWord (entryAt b k + entryMarksAt) (summary .marks) q r
+    → PutCounts (entryAt b k + entryCountsAt) mostAlphabet (summary .counts) r s
+    → PutEntry b k child summary p s
+entry-put b k child summary p q r s link marks counts =
+    let at = entryAt b k in
+    record {
+      same =
+          outside-then (outside-wider at entrySize (omega arith) (omega arith) (link .same))
+          (outside-then (outside-wider at entrySize (omega arith) (omega arith) (marks .same))
+          (outside-wider at entrySize (omega arith) (omega arith) (counts .same)));
+      link = word-before (counts .same) at (omega arith) ∙ word-before (marks .same) at (omega arith) ∙ link .put;
+      marks = word-before (counts .same) (at + entryMarksAt) (omega arith) ∙ marks .put;
+      counts = counts .put;
+    }
+
+-- the two words that a mark counts in
+module _ (b k c allMarks allOfC : ℕ) (p q r : List ℕ) (inside : c < mostAlphabet)
+    (marks : PutWord (entryAt b k + entryMarksAt) allMarks p q)
+    (count : PutWord (entryAt b k + entryCountsAt + wordSize * c) allOfC q r) where
+  -- another symbol's count
+  count-kept : (d : ℕ) → (d ≡ c → ⊥) → countBelow r b k d ≡ countBelow p b k d
+  count-kept d other =
+      let at = entryAt b k + entryCountsAt + wordSize * d in
+      by-leb {A = Unit {0}} (λ _. word r at ≡ word q at) d c tt tt
+      (λ le. word-before (count .same) at (omega arith))
+      (λ (gt : c < d). word-behind (count .same) at (omega arith))
+      ∙ word-behind (marks .same) at (omega arith)
+
+  pub mark-put : PutMark b k c allMarks allOfC p r
+  mark-put =
+      let at = entryAt b k in
+      record {
+        same =
+            outside-then (outside-wider at entrySize (omega arith) (omega arith) (marks .same))
+            (outside-wider at entrySize (omega arith) (omega arith) (count .same));
+        link = word-before (count .same) at (omega arith) ∙ word-before (marks .same) at (omega arith);
+        marks = word-before (count .same) (at + entryMarksAt) (omega arith) ∙ marks .put;
+        count = count .put;
+        others = λ d h other. count-kept d other;
+      }

@@ -1,0 +1,43 @@
+-- One step of a pass over the columns of a line, for the tests that look at every column.
+-- Assumes nothing.
+use mathlib.Core.Bool.{Bool, true, false, _||_, or-true, or-false}
+use mathlib.Core.Path.{_≡_}
+use mathlib.Core.List.{List}
+use Prim.Native.Nat.{ℕ, _+_, _≤_, _<_}
+use borrow.Author.Tests.{eq-eqb, ne-eqb}
+use lib.ListN.{length, getD, drop, drop-of-length-le}
+use Rattle.text_fixed_form.specs.Mark.{blank, allBlank, isOutside, anyOutside}
+use Rattle.text_fixed_form.proofs.Lists.{drop-next}
+
+module _ (line : List ℕ) (i : ℕ) where
+  -- past the last column
+  pub all-blank-end : length line ≤ i → allBlank (drop i line) ≡ true
+  unfolding allBlank
+  all-blank-end h = rw (drop-of-length-le line h)
+
+  -- at a blank the rest decides
+  pub all-blank-next : i < length line → getD line i 0 ≡ blank → allBlank (drop i line) ≡ allBlank (drop (i + 1) line)
+  unfolding allBlank
+  all-blank-next h e = rw (drop-next line i h, eq-eqb _ _ e)
+
+  -- another byte decides
+  pub all-blank-stop : i < length line → (getD line i 0 ≡ blank → ⊥) → allBlank (drop i line) ≡ false
+  unfolding allBlank
+  all-blank-stop h e = rw (drop-next line i h, ne-eqb _ _ e)
+
+module _ (line : List ℕ) (i : ℕ) (found : Bool) where
+  -- past the last column
+  pub any-outside-end : length line ≤ i → (found || anyOutside (drop i line)) ≡ found
+  unfolding anyOutside
+  any-outside-end h = rw (drop-of-length-le line h, or-false found)
+
+  -- a byte that is outside decides, whatever was found before
+  pub any-outside-found : i < length line → isOutside (getD line i 0) ≡ true → (found || anyOutside (drop i line)) ≡ true
+  unfolding anyOutside
+  any-outside-found h e = rw (drop-next line i h, e, or-true found)
+
+  -- any other byte leaves it to the rest
+  pub any-outside-next :
+      i < length line → isOutside (getD line i 0) ≡ false → (found || anyOutside (drop i line)) ≡ (found || anyOutside (drop (i + 1) line))
+  unfolding anyOutside
+  any-outside-next h e = rw (drop-next line i h, e)

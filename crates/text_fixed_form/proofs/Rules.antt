@@ -1,0 +1,42 @@
+-- Which rule gives a card its mark: the first whose test holds, after those whose tests don't.
+-- Assumes nothing.
+use mathlib.Core.Bool.{Bool, true, false}
+use mathlib.Core.Path.{_≡_, sym, _∙_}
+use mathlib.Core.List.{List}
+use Prim.Native.Nat.{ℕ}
+use lib.ListN.{drop}
+use Rattle.geometry.specs.Limits.{continuationColumn}
+use Rattle.text_fixed_form.specs.Mark.{outside, comment, continuation, storageShared, common, other, anyOutside, isComment, isContinuation, begins, equivalenceWord, commonWord, text, firstThatFits, rules}
+
+-- a test is what the answer was to it
+pub answered : {answer test known : Bool} → answer ≡ test → answer ≡ known → test ≡ known
+answered e f = sym e ∙ f
+
+module _ (columns : List ℕ) where
+  -- a byte that no line may have
+  pub fits-outside : anyOutside columns ≡ true → outside ≡ firstThatFits (rules columns)
+  fits-outside e = rw e
+
+  module _ (no-outside : anyOutside columns ≡ false) where
+    -- a comment
+    pub fits-comment : isComment columns ≡ true → comment ≡ firstThatFits (rules columns)
+    fits-comment e = rw (no-outside, e)
+
+    module _ (no-comment : isComment columns ≡ false) where
+      -- a continuation
+      pub fits-continuation : isContinuation columns ≡ true → continuation ≡ firstThatFits (rules columns)
+      fits-continuation e = rw (no-outside, no-comment, e)
+
+      module _ (no-continuation : isContinuation columns ≡ false) (after : List ℕ) (is : after ≡ drop continuationColumn columns) where
+        -- storage shared
+        pub fits-storage-shared : begins equivalenceWord (text after) ≡ true → storageShared ≡ firstThatFits (rules columns)
+        fits-storage-shared e = rw (no-outside, no-comment, no-continuation, ← is, e)
+
+        module _ (no-storage-shared : begins equivalenceWord (text after) ≡ false) where
+          -- common storage
+          pub fits-common : begins commonWord (text after) ≡ true → common ≡ firstThatFits (rules columns)
+          fits-common e = rw (no-outside, no-comment, no-continuation, ← is, no-storage-shared, e)
+
+          -- none of these
+          pub fits-other : begins commonWord (text after) ≡ false → other ≡ firstThatFits (rules columns)
+          fits-other e = rw (no-outside, no-comment, no-continuation, ← is, no-storage-shared, e)

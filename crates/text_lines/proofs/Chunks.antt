@@ -1,0 +1,32 @@
+-- Any way of cutting an input into chunks gives the same lines; and what is left of a chunk behind a place.
+-- Assumes nothing.
+use mathlib.Core.Bool.{Bool}
+use mathlib.Core.Path.{_≡_, refl, ap, sym, _∙_}
+use mathlib.Core.List.{List, [], _∷_, _++_, append-assoc}
+use Prim.Native.Nat.{ℕ, _-_}
+use native.Mathlib.Omega.{arith}
+use lib.ListN.{length, take, drop, length-drop}
+use lib.Seq.{take-all}
+use Rattle.text_lines.specs.Lines.{ended, left, lastLine, linesOf, joined, linesOfChunks}
+use Rattle.text_lines.proofs.Cut.{ended-append, left-append}
+
+-- chunks that come after some bytes of a line
+pub chunks-after : (r : Bool) (g : List ℕ) (chunks : List (List ℕ)) →
+    linesOfChunks r g chunks ≡ ended r g (joined chunks) ++ lastLine (left g (joined chunks))
+unfolding ended left joined linesOfChunks
+chunks-after r g [] = refl
+chunks-after r g (c ∷ cs) =
+    ap (λ (l : List (List ℕ)). ended r g c ++ l) (chunks-after r (left g c) cs)
+    ∙ rw (ended-append r g c (joined cs), left-append g c (joined cs)) (sym (append-assoc (ended r g c) _ _))
+
+-- chunks that come from the start
+pub chunks-lines : (r : Bool) (chunks : List (List ℕ)) → linesOfChunks r [] chunks ≡ linesOf r (joined chunks)
+unfolding linesOf
+chunks-lines r chunks = chunks-after r [] chunks
+
+-- the part of a chunk from a place on, as code lends it
+pub rest-is : (chunk : List ℕ) (at : ℕ) → take (length chunk - at) (drop at chunk) ≡ drop at chunk
+rest-is chunk at = take-all (length chunk - at) (drop at chunk) (omega (arith, length-drop at chunk))
+
+pub length-rest : (chunk : List ℕ) (at : ℕ) → length (take (length chunk - at) (drop at chunk)) ≡ length chunk - at
+length-rest chunk at = ap length (rest-is chunk at) ∙ length-drop at chunk

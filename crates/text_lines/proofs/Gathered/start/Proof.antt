@@ -1,0 +1,11 @@
+-- `text_lines::Gathered::start` stands for no bytes, under either rule and beside any buffer.
+-- Assumes nothing.
+use Rattle.text_lines.proofs.Standing.{stands-start}
+use Rattle.text_lines.proofs.Gathered.start.Statement.{statement}
+use Rattle.text_lines.proofs.Gathered.start.Tie as tie
+
+returns : tie.Need-returns
+returns c = stands-start
+
+pub start-spec : {M : Type 1} → statement M
+start-spec = tie.close (tie.spec returns)

@@ -1,8 +1,0 @@
-#!/bin/sh
-# Builds and runs the benchmark of the check: proved, in plain C, and a plain sum of the held bytes. The archive is code for x86-64.
-set -e
-[ "$(uname -m)" = x86_64 ] || { echo "the archive links into x86-64 programs alone, and an emulator's times say nothing"; exit 1; }
-cd "$(dirname "$0")"
-(cd ../.. && rt staticlib sound_archive >/dev/null)
-gcc -O3 -o ../../target/sound_benchmark benchmark.c ../../target/staticlib/libsound_archive.a
-../../target/sound_benchmark
