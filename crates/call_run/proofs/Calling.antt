@@ -1,5 +1,4 @@
 -- A call once its tests are done: refused, or with a map for its frames.
--- Assumes nothing.
 use mathlib.Core.Path.{_≡_, refl, _∙_}
 use mathlib.Core.List.{List}
 use Prim.Native.Nat.{ℕ, _/_, _^_, _≤_, _<_}
@@ -14,7 +13,7 @@ use Rattle.pool.specs.Sound.{LengthAllowed}
 use Rattle.pool_check.specs.Maps.{MapOf}
 use Rattle.call_run.specs.Calls.{Ran}
 use Rattle.call_run.specs.Frames.{FramesReady, FramesRun}
-use Rattle.call_run.proofs.Outcomes.{Passed, all-passed}
+use Rattle.call_run.proofs.Outcomes.{TestsPassed, all-passed}
 
 -- the check's map, cut to the pool's shares
 pub map-cut : (p map : List ℕ) → LengthAllowed (length p) → length map ≡ mostShares → MapOf p map → Exact p (take (shares p) map)
@@ -34,7 +33,7 @@ module _ (p commands room map : List ℕ) (status : ℕ) (judged : Judged p comm
   call-refused some = record { status = judged .tested; refused = λ _. (refl, refl, refl); accepted = λ e. absurd (some e) }
 
   module _ (done : status ≡ 0) where
-    passed : Passed p commands room
+    passed : TestsPassed p commands room
     passed = all-passed p commands room status done (judged .tested)
 
     -- the pool's shares are a part of the map

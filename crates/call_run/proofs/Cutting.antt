@@ -1,6 +1,5 @@
 -- Commands that stand one behind the other in bytes: each frame starts where whole frames end, so that cuts of the bytes are cuts of the
 -- commands.
--- Assumes nothing.
 use mathlib.Core.Path.{_≡_, refl, sym, ap, ap₂, _∙_}
 use mathlib.Core.List.{List, [], _∷_, _++_}
 use Prim.Native.Nat.{ℕ, zero, suc, _+_, _-_, _*_, _/_, _%_, _<_}

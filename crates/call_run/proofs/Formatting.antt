@@ -1,5 +1,4 @@
 -- A pool cleared whole, with the layout's number put in front, is a formatted one, byte by byte.
--- Assumes nothing.
 use mathlib.Core.Bool.{Bool, true, false}
 use mathlib.Core.Path.{_≡_, refl, sym, ap, _∙_}
 use mathlib.Core.List.{List}

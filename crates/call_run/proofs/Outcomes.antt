@@ -1,6 +1,5 @@
 -- Two outcomes of the same call: the status is the first reason that applies, so there is one; the answers are the machine's, and so is
 -- what the pool then means.
--- Assumes nothing.
 use mathlib.Core.Path.{_≡_, sym, ap, _∙_}
 use mathlib.Core.List.{List, _++_}
 use mathlib.Core.Logic.{_⊎_, ⊎-elim, inl, inr}
@@ -41,13 +40,13 @@ length-cases bytes =
     (eq-zero-or-pos (bytes % blockSize + (shortestPool - bytes) + (bytes - longestPool)))
 
 -- what a call that nothing refuses has passed
-pub record Passed (p commands room : List ℕ) : Type 0 where
+pub record TestsPassed (p commands room : List ℕ) : Type 0 where
   pub allowed : LengthAllowed (length p)
   pub frames : CommandsAllowed (length commands)
   pub fits : length commands ≤ length room
   pub sound : Sound p
 
-pub all-passed : (p commands room : List ℕ) (s : ℕ) → s ≡ 0 → StatusOfCall p commands room s → Passed p commands room
+pub all-passed : (p commands room : List ℕ) (s : ℕ) → s ≡ 0 → StatusOfCall p commands room s → TestsPassed p commands room
 all-passed p commands room s e (inl x) = absurd (omega arith)
 all-passed p commands room s e (inr (inl x)) = absurd (omega arith)
 all-passed p commands room s e (inr (inr (inl x))) = absurd (omega arith)

@@ -1,5 +1,4 @@
 -- The loop over frames: how far it has come after k of them, at its start, after one more and at its end.
--- Assumes nothing.
 use mathlib.Core.Path.{_≡_, refl, sym, ap, ap₂, _∙_}
 use mathlib.Core.List.{List, [], _∷_, _++_, append-nil}
 use Prim.Native.Nat.{ℕ, _+_, _*_, _/_, _≤_, _<_}
@@ -20,7 +19,7 @@ use Rattle.call_run.proofs.Cutting.{commandAt, firstCommands, no-comman
 use Rattle.call_run.proofs.Following.{runs-long, runs-snoc}
 
 -- k frames were run, from the pool p to the pool q with its map m, and answered in front of the room
-pub record Progress (p commands room : List ℕ) (k : ℕ) (q m filled : List ℕ) : Type 0 where
+pub record FramesDone (p commands room : List ℕ) (k : ℕ) (q m filled : List ℕ) : Type 0 where
   pub ready : Ready q m
   pub within : k ≤ length commands / frameSize
   pub answers : List Answer
@@ -31,7 +30,7 @@ pub record Progress (p commands room : List ℕ) (k : ℕ) (q m filled : List �
 
 module _ (p m commands room : List ℕ) (given : FramesReady p m commands room) where
   -- nothing yet
-  pub none-run : Progress p commands room 0 p m room
+  pub none-run : FramesDone p commands room 0 p m room
   none-run =
       record {
         ready = given .ready;
@@ -43,7 +42,7 @@ module _ (p m commands room : List ℕ) (given : FramesReady p m commands room) 
         long = refl;
       }
 
-  module _ (k : ℕ) (q map filled : List ℕ) (so-far : Progress p commands room k q map filled) where
+  module _ (k : ℕ) (q map filled : List ℕ) (so-far : FramesDone p commands room k q map filled) where
     -- there is room for the next answer
     pub room-inside : k < length commands / frameSize → frameSize * k + frameSize ≤ length filled
     room-inside l = omega (arith, so-far .long, given .fits)
@@ -97,7 +96,7 @@ module _ (p m commands room : List ℕ) (given : FramesReady p m commands room) 
       long-after = ap length put ∙ length-paste filled (frameSize * k) (bytesOfAnswer a) frameSize (room-inside more) (omega arith) ∙ so-far .long
 
       -- one frame more
-      pub one-run : Progress p commands room (k + 1) q′ map′ filled′
+      pub one-run : FramesDone p commands room (k + 1) q′ map′ filled′
       one-run =
           record {
             ready = record { sound = step .step .sound; map = step .map };

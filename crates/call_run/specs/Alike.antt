@@ -1,5 +1,4 @@
 -- Two outcomes that a call's contract allows.
--- Assumes nothing.
 use mathlib.Core.Path.{_≡_}
 use mathlib.Core.List.{List}
 use Prim.Native.Nat.{ℕ}

@@ -1,5 +1,4 @@
 -- What the two calls on a pool promise: every result and every lent buffer at exit, for refusals as for successes.
--- Assumes nothing.
 use mathlib.Core.Path.{_≡_}
 use mathlib.Core.List.{List, _++_}
 use mathlib.Core.Logic.{_≢_}

@@ -1,5 +1,4 @@
 -- What the frames of an accepted call find and leave.
--- Assumes nothing.
 use mathlib.Core.List.{List}
 use Prim.Native.Nat.{ℕ, _/_, _≤_}
 use lib.ListN.{length}

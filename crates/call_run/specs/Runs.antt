@@ -1,5 +1,4 @@
 -- Frames in order, each from the pool that the one before it left.
--- Assumes nothing.
 use mathlib.Core.Path.{_≡_}
 use mathlib.Core.List.{List, [], _∷_, map}
 use Prim.Native.Nat.{ℕ, _*_, _/_}

@@ -1,5 +1,4 @@
 -- A call's tests, each where those before it passed.
--- Assumes nothing.
 use mathlib.Core.Bool.{Bool, true, false}
 use mathlib.Core.Path.{_≡_, refl}
 use mathlib.Core.List.{List}

@@ -1,6 +1,5 @@
 -- An accepted call: its pool is sound, and its answer frames are those of its answers, since the commands are whole frames and each
 -- has one answer of eight bytes.
--- Assumes nothing.
 use mathlib.Core.Path.{_≡_, ap, _∙_}
 use mathlib.Core.List.{List, map}
 use Prim.Native.Nat.{ℕ, _*_, _/_}
@@ -10,7 +9,7 @@ use lib.Seq.{take-at, drop-at}
 use Rattle.geometry.specs.Limits.{frameSize}
 use Rattle.call_run.proofs.Cutting.{commands-many}
 use Rattle.call_run.proofs.Following.{runs-many, runs-long, runs-sound}
-use Rattle.call_run.proofs.Outcomes.{Passed, all-passed}
+use Rattle.call_run.proofs.Outcomes.{TestsPassed, all-passed}
 use Rattle.call_run.specs.Calls.{Ran}
 use Rattle.call_run.specs.Runs.{Runs, eights, commandsIn}
 use Rattle.call_tests.specs.declared.Outcome.{Outcome}
@@ -25,7 +24,7 @@ use Rattle.demands.proofs.Eights.{length-of-frames, cut-frames}
 use Rattle.demands.proofs.FramesRun.{IsStep, each-frame}
 
 module _ (p commands room : List ℕ) (r : Outcome) (q filled : List ℕ) (ran : Ran p commands room r q filled) (zero : r .status ≡ 0) where
-  passed : Passed p commands room
+  passed : TestsPassed p commands room
   passed = all-passed p commands room (r .status) zero (ran .status)
 
   abbrev pub answers : List Answer

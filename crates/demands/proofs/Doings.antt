@@ -1,5 +1,4 @@
 -- What a frame that isn't refused does, read off its row of the table of commands.
--- Assumes nothing.
 use mathlib.Core.Bool.{true, false≢true}
 use mathlib.Core.Path.{_≡_, refl, ap, _∙_}
 use mathlib.Core.List.{List}

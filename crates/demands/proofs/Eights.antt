@@ -1,5 +1,4 @@
 -- Frames of eight bytes, one behind the other and cut again: each stands where those before it end.
--- Assumes nothing.
 use mathlib.Core.Path.{_≡_, refl, sym, ap, ap₂, _∙_}
 use mathlib.Core.List.{List, [], _∷_, _++_, map, append-assoc}
 use Prim.Native.Nat.{ℕ, suc, _*_, _/_}

@@ -1,6 +1,5 @@
 -- Demand 1, from the contracts' definitions: a length is allowed or not, an accepted call has an answer
 -- frame for each command, and a refused command's step leaves the pool.
--- Assumes nothing.
 use mathlib.Core.Bool.{Bool, true, false, cond}
 use mathlib.Core.Path.{_≡_, refl, sym, ap, _∙_}
 use mathlib.Core.List.{List, [], _∷_, map, map-map}

@@ -1,5 +1,4 @@
 -- The frames of a run: their commands, their answers, and what holds of each since each is a step from a sound pool.
--- Assumes nothing.
 use mathlib.Core.Path.{_≡_, refl, sym, ap, _∙_}
 use mathlib.Core.List.{List, [], _∷_, map}
 use Prim.Native.Nat.{ℕ}

@@ -1,5 +1,4 @@
 -- A pool that format has just left: its length was allowed, so it is formatted, and sound with every name closed.
--- Assumes nothing.
 use mathlib.Core.Path.{_≡_, sym, ap, _∙_}
 use mathlib.Core.List.{List}
 use mathlib.Core.Logic.{⊎-elim}

@@ -1,5 +1,4 @@
 -- What one name sees of accepted calls is what it sees of the machine's run: its answer frames are those answers' bytes.
--- Assumes nothing.
 use mathlib.Core.Bool.{Bool, true, false, cond}
 use mathlib.Core.Path.{_≡_, refl, sym, ap, _∙_}
 use mathlib.Core.List.{List, [], _∷_, map}
@@ -19,7 +18,7 @@ use Rattle.protocol.specs.State.{partOf}
 use Rattle.protocol.specs.declared.Answer.{Answer}
 use Rattle.protocol.specs.declared.Command.{Command}
 use Rattle.demands.specs.Accepted.{Fresh, Call, Session, commandsOf}
-use Rattle.demands.specs.Demand3.{commandsTo, answersTo, openingsOf, SameCommands, Alike, AnsweredAlike}
+use Rattle.demands.specs.Demand3.{commandsTo, answersToName, openingsIn, SameCommands, Alike, AnsweredAlike}
 use Rattle.demands.proofs.FreshPools.{fresh-part}
 use Rattle.demands.proofs.SessionsRun.{session-answers, session-meaning}
 
@@ -44,12 +43,12 @@ first-byte [] = refl
 first-byte (a ∷ answers) = ap (λ l. a .status ∷ l) (first-byte answers)
 
 module _ (x : ℕ) (calls : List Call) (p q : List ℕ) (session : Session p calls q) where
-  pub answers-of-name : answersTo x calls ≡ map bytesOfAnswer (answersFor x (meaning p) (commandsOf calls))
+  pub answers-of-name : answersToName x calls ≡ map bytesOfAnswer (answersFor x (meaning p) (commandsOf calls))
   answers-of-name =
       ap (beside (isTo x) (commandsOf calls)) (session-answers calls p q session)
       ∙ beside-map bytesOfAnswer (isTo x) (commandsOf calls) (Respond.answersTo trees (meaning p) (commandsOf calls))
 
-  pub openings-of-name : openingsOf x calls ≡ OneName.openingsOf x (meaning p) (commandsOf calls)
+  pub openings-of-name : openingsIn x calls ≡ OneName.openingsOf x (meaning p) (commandsOf calls)
   openings-of-name =
       let told = answersFor x (meaning p) (commandsOf calls) in
       ap (λ frames. map (λ bytes. getD bytes 0 0) (beside isOpening (commandsTo x calls) frames)) answers-of-name

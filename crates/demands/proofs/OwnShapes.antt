@@ -1,6 +1,5 @@
 -- A name's tree since its opening: frames in order, each from the pool that the one before it left. A frame to another name leaves the
 -- part, and a frame to this one replies by the part alone, unless it opens the name.
--- Assumes nothing.
 use mathlib.Core.Bool.{Bool, true, false, cond}
 use mathlib.Core.Path.{_≡_, refl, sym, ap, subst, _∙_}
 use mathlib.Core.List.{List, [], _∷_, _++_, map}

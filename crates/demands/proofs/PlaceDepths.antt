@@ -1,5 +1,4 @@
 -- The depth of a place of an open name of a sound pool: the path's blocks follow one another's links, the last bears the place.
--- Assumes nothing.
 use mathlib.Core.Path.{_≡_, refl, sym, ap, _∙_}
 use mathlib.Core.List.{List, [], _∷_, _++_}
 use mathlib.Core.Logic.{⊎-elim}

@@ -1,18 +1,17 @@
 -- Why demand 3 has its premises: pools of one and of two shares answer these commands differently, by computation.
--- Assumes nothing.
 use mathlib.Core.Path.{_≡_, refl}
 use Prim.Native.Nat.{ℕ}
 use Rattle.protocol.specs.Commands.{rows, openCode, unpromisedCode}
 use Rattle.protocol.specs.Edges.{command, toFirst, gives, refuses}
 use Rattle.protocol.specs.Refusals.{refusals, statusOf, noName}
 use Rattle.protocol.specs.Respond.{reply, respond}
-use Rattle.protocol.specs.State.{lists, formatted}
+use Rattle.protocol.specs.State.{lists, freshState}
 use Rattle.protocol.specs.declared.Answer.{Answer}
 use Rattle.protocol.specs.declared.Command.{Command}
 
--- what a formatted pool of so many shares answers
+-- what a freshState pool of so many shares answers
 abbrev answerOn : ℕ → Command → Answer
-answerOn shares c = respond lists (formatted shares) c .answer
+answerOn shares c = respond lists (freshState shares) c .answer
 
 -- an opening that finds room in one pool only: so the statuses of openings are given
 pub openings-differ : (answerOn 1 (toFirst openCode 4 2) ≡ refuses 0 12) × (answerOn 2 (toFirst openCode 4 2) ≡ gives 0 0)

@@ -1,5 +1,4 @@
 -- Demand 2, frame by frame: the machine's image on lists is Definition 1's, the statuses are the table's, the depth is the path's.
--- Assumes nothing.
 use mathlib.Core.Bool.{true, false≢true}
 use mathlib.Core.Path.{_≡_, refl, sym, ap, _∙_}
 use mathlib.Core.List.{List, map}

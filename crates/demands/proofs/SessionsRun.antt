@@ -1,5 +1,4 @@
 -- Accepted calls one after the other are one run of all their commands, and their answer frames are that run's answers.
--- Assumes nothing.
 use mathlib.Core.Path.{_≡_, refl, sym, ap, ap₂, _∙_}
 use mathlib.Core.List.{List, [], _∷_, _++_, map, map-append}
 use Prim.Native.Nat.{ℕ}

@@ -1,5 +1,4 @@
 -- Demand 3, from the machine's law that a name's answers go by its own part, its own commands and the statuses of its openings alone.
--- Assumes nothing.
 use Prim.Native.Nat.{ℕ, _<_}
 use Rattle.geometry.specs.Limits.{names}
 use Rattle.demands.specs.Accepted.{Frame}

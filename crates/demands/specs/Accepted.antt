@@ -1,5 +1,4 @@
 -- An accepted call frame by frame, and accepted calls one after the other.
--- Assumes nothing.
 use mathlib.Core.Path.{_≡_}
 use mathlib.Core.List.{List, [], _∷_, _++_}
 use Prim.Native.Nat.{ℕ}

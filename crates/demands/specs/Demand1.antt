@@ -1,7 +1,6 @@
 -- Demand 1: "The index takes all pools, command frames and answer room that anyone can lend, always ends, relies on no check of the
 -- caller's. A refused call changes no byte of the three buffers. A refused command changes no byte of the pool and still gets its
 -- answer frame."
--- Assumes nothing.
 use mathlib.Core.Path.{_≡_}
 use mathlib.Core.List.{List, map}
 use mathlib.Core.Logic.{_⊎_, _↔_, _≢_}

@@ -1,7 +1,6 @@
 -- Demand 2: "For each name insert, delete, access, rank and select do what Definition 1 of the paper 000 says, with document 01's edges,
 -- answers and order of refusals. 'Full' exactly when the promised room is used up, 'no room' exactly when too few shares are
 -- unpromised."
--- Assumes nothing.
 use mathlib.Core.Path.{_≡_}
 use mathlib.Core.List.{List, [], _∷_, _++_, map}
 use mathlib.Core.Logic.{_↔_, _≢_}
@@ -20,7 +19,7 @@ use Rattle.protocol.specs.Commands.{openCode, insertCode, deleteCode, accessCod
 use Rattle.protocol.specs.Edges.{edges, answered}
 use Rattle.protocol.specs.Refusals.{NoneApplies, Lowest, refusals}
 use Rattle.protocol.specs.Respond.{respond, withoutDepth}
-use Rattle.protocol.specs.State.{Part, State, formatted, partOf, sharesOf, marksOf, unpromised, lists, asLists}
+use Rattle.protocol.specs.State.{Part, State, freshState, partOf, sharesOf, marksOf, unpromised, lists, asLists}
 use Rattle.sequence.specs.Definition1.{count, access, rank, select, insert, delete}
 use Rattle.sequence.specs.Items.{All}
 use Rattle.shape.specs.Depth.{DepthRule}
@@ -151,8 +150,8 @@ pub record Demand2 : Type 0 where
   pub frames : (p commands room : List ℕ) (r : Outcome) (q filled : List ℕ) (ran : Ran p commands room r q filled) (zero : r .status ≡ 0)
       → All Answers (framesRun ran zero)
   pub sound : (p commands room : List ℕ) (r : Outcome) (q filled : List ℕ) → Ran p commands room r q filled → r .status ≡ 0 → Sound q
-  -- a formatted pool is sound, with every name closed
-  pub fresh : (p : List ℕ) → Fresh p → Sound p × (held p ≡ formatted (shares p))
+  -- a freshState pool is sound, with every name closed
+  pub fresh : (p : List ℕ) → Fresh p → Sound p × (held p ≡ freshState (shares p))
   -- document 01's edges
   pub edges : map answered edges ≡ map (λ e. e .expected) edges
   pub rankAndSelect : (c : ℕ) (xs : List ℕ) → RankAndSelect c xs

@@ -2,7 +2,6 @@
 -- answer that file alike byte for byte, whatever the other files do and however large the pools. No command naming another file changes
 -- a byte of a block that this file holds." And document 01: "The tree's shape depends only on the commands of its own name since its
 -- opening, never on which blocks it was handed."
--- Assumes nothing.
 use mathlib.Core.Path.{_≡_}
 use mathlib.Core.List.{List, [], _∷_, _++_, map}
 use mathlib.Core.Logic.{_≢_}
@@ -32,12 +31,12 @@ abbrev pub commandsTo : ℕ → List Call → List Command
 commandsTo x calls = framesTo x (commandsOf calls)
 
 -- the answer frames to them, as bytes
-abbrev pub answersTo : ℕ → List Call → List (List ℕ)
-answersTo x calls = beside (isTo x) (commandsOf calls) (answersOf calls)
+abbrev pub answersToName : ℕ → List Call → List (List ℕ)
+answersToName x calls = beside (isTo x) (commandsOf calls) (answersOf calls)
 
 -- the statuses of its openings: the first byte of each answer frame to one
-abbrev pub openingsOf : ℕ → List Call → List ℕ
-openingsOf x calls = map (λ bytes. getD bytes 0 0) (beside isOpening (commandsTo x calls) (answersTo x calls))
+abbrev pub openingsIn : ℕ → List Call → List ℕ
+openingsIn x calls = map (λ bytes. getD bytes 0 0) (beside isOpening (commandsTo x calls) (answersToName x calls))
 
 -- Two runs.
 
@@ -45,7 +44,7 @@ openingsOf x calls = map (λ bytes. getD bytes 0 0) (beside isOpening (commandsT
 pub record SameCommands (x : ℕ) (calls calls′ : List Call) : Type 0 where
   pub name : x < names
   pub commands : commandsTo x calls ≡ commandsTo x calls′
-  pub openings : openingsOf x calls ≡ openingsOf x calls′
+  pub openings : openingsIn x calls ≡ openingsIn x calls′
 
 -- two pools are alike at a name: closed in both, or open with the same alphabet, shares and tree, whichever blocks bear it
 abbrev pub Alike : ℕ → List ℕ → List ℕ → Type 0
@@ -53,7 +52,7 @@ Alike x p p′ = meaningOf p x ≡ meaningOf p′ x
 
 -- it is answered alike, byte for byte, and the pools are alike at it in the end
 pub record AnsweredAlike (x : ℕ) (calls calls′ : List Call) (q q′ : List ℕ) : Type 0 where
-  pub answers : answersTo x calls ≡ answersTo x calls′
+  pub answers : answersToName x calls ≡ answersToName x calls′
   pub end : Alike x q q′
 
 -- Another name's blocks.

@@ -1,5 +1,4 @@
 -- A number's two halves are the outcome that it was made of: the lower one fits 32 bits.
--- Assumes nothing.
 use mathlib.Core.Path.{_≡_, ap₂}
 use mathlib.Core.List.{List}
 use Prim.Native.Nat.{ℕ, _+_, _*_, _/_, _%_, _^_, _<_}

@@ -1,5 +1,4 @@
 -- The outcome of a call as one number, for callers in C.
--- Assumes nothing.
 use Prim.Native.Nat.{ℕ, _/_, _%_, _^_}
 use Rattle.call_tests.specs.declared.Outcome.{Outcome}
 

@@ -1,6 +1,5 @@
 -- The steps of a frame. A refusal and a query leave the pool as it is, and so what it means. A change of one name changes that name's part
 -- of the meaning, which the machine's effect is, and no other name's record or blocks.
--- Assumes nothing.
 use mathlib.Core.Bool.{true, true≢false}
 use mathlib.Core.List.{List, [], _∷_}
 use mathlib.Core.Logic.{_⊎_, _≢_, ⊎-elim}

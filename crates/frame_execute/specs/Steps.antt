@@ -1,5 +1,4 @@
 -- One frame: what is answered, and what becomes of the pool.
--- Assumes nothing.
 use mathlib.Core.Bool.{Bool, false}
 use mathlib.Core.Path.{_≡_}
 use mathlib.Core.List.{List}
@@ -14,14 +13,14 @@ use Rattle.pool.specs.Names.{blocksOf}
 use Rattle.pool.specs.Sound.{Sound}
 use Rattle.pool.specs.Untouched.{Untouched}
 use Rattle.protocol.specs.Commands.{openCode, deleteCode}
-use Rattle.protocol.specs.Refusals.{codes}
+use Rattle.protocol.specs.Refusals.{codesBetween}
 use Rattle.protocol.specs.Respond.{respond}
 use Rattle.protocol.specs.declared.Answer.{Answer}
 use Rattle.protocol.specs.declared.Command.{Command}
 
 -- the command may change the pool: an opening, a closing, an insert or a delete
 abbrev pub isChange : ℕ → Bool
-isChange code = codes openCode deleteCode code
+isChange code = codesBetween openCode deleteCode code
 
 -- another name's record and the blocks that it holds, and which they are, are as before
 pub record Kept (name : ℕ) (p q : List ℕ) : Type 0 where

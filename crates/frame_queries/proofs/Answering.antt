@@ -1,5 +1,4 @@
 -- The answers to queries: each query can be asked where nothing refuses it, and what it gives is the machine's answer.
--- Assumes nothing.
 use mathlib.Core.List.{List}
 use mathlib.Core.Path.{_≡_, sym, ap, _∙_}
 use Prim.Native.Nat.{ℕ, _^_, _≤_, _<_}

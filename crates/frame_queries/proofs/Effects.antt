@@ -1,5 +1,4 @@
 -- What a command that nothing refuses comes to: its row's effect, code by code, and what its acceptance says of the pool.
--- Assumes nothing.
 use mathlib.Core.Bool.{true}
 use mathlib.Core.List.{List}
 use mathlib.Core.Logic.{_≢_}

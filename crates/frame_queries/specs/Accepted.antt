@@ -1,5 +1,4 @@
 -- A command that nothing refuses, and the machine's answer to it.
--- Assumes nothing.
 use mathlib.Core.List.{List}
 use mathlib.Core.Path.{_≡_}
 use Prim.Native.Nat.{ℕ}

@@ -1,5 +1,4 @@
 -- The nine codes: what holds of each of them holds of every code in the table. Which codes are in it, and which fields their commands use.
--- Assumes nothing.
 use mathlib.Core.Bool.{Bool, true, false, _||_, false≢true}
 use mathlib.Core.Logic.{_≢_}
 use mathlib.Core.Path.{_≡_, refl, sym, subst}

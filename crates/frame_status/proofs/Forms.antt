@@ -1,5 +1,4 @@
 -- The statuses 1 to 3: which of them a command gets, and what is left to test where it gets none.
--- Assumes nothing.
 use mathlib.Core.Bool.{Bool, true, false, _||_, true≢false}
 use mathlib.Core.List.{List}
 use mathlib.Core.Logic.{_≢_}

@@ -1,5 +1,4 @@
 -- A name's part, by its record: whether it is open, and what it then holds.
--- Assumes nothing.
 use mathlib.Core.Bool.{Bool, true, false, cond, not, true≢false, false≢true}
 use mathlib.Core.List.{List}
 use mathlib.Core.Logic.{⊎-elim}

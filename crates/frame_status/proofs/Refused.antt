@@ -1,5 +1,4 @@
 -- The status of a command by the tests that the code makes: one law for each way out.
--- Assumes nothing.
 use mathlib.Core.Bool.{Bool, true, false, cond, not, _&&_, _||_}
 use mathlib.Core.List.{List}
 use mathlib.Core.Logic.{_⊎_, ⊎-elim}

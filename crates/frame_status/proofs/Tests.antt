@@ -1,5 +1,4 @@
 -- The statuses from 4 on, code by code: what is tested of a well-formed command, in the order of the table.
--- Assumes nothing.
 use mathlib.Core.Bool.{true, cond, not, _&&_, _||_}
 use mathlib.Core.Logic.{_≢_}
 use mathlib.Core.Path.{_≡_, refl}

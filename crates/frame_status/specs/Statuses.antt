@@ -1,5 +1,4 @@
 -- The machine's status of a command, by what a pool means, and what is known of the command where later tests are made.
--- Assumes nothing.
 use mathlib.Core.Bool.{true}
 use mathlib.Core.List.{List}
 use mathlib.Core.Logic.{_≢_}

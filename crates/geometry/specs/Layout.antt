@@ -1,5 +1,4 @@
 -- The numbers of the pool's layout (docs/LAYOUT.md), by the names that the code has for them.
--- Assumes nothing.
 use Prim.Native.Nat.{ℕ}
 use Rattle.geometry.specs.declared.layout.Layout.{Layout}
 

@@ -1,5 +1,4 @@
 -- The two records that a name starts from.
--- Assumes nothing.
 use Prim.Native.Nat.{ℕ}
 use Rattle.geometry.specs.Layout.{kindClosed, kindMarks}
 use Rattle.geometry.specs.declared.Record.{Record}

@@ -1,5 +1,4 @@
 -- Commands in one list or cut into several: the same answers and the same state.
--- Assumes nothing.
 use mathlib.Core.List.{List, [], _∷_, _++_, flatten}
 use mathlib.Core.Path.{refl, sym, ap, _∙_}
 use Rattle.protocol.proofs.Replies.{answers-append, state-after-append}

@@ -1,5 +1,4 @@
 -- The depth in an answer: a successful access tells its place's own, every other answer none.
--- Assumes nothing.
 use mathlib.Core.List.{List, [], _∷_}
 use mathlib.Core.Logic.{_≢_}
 use mathlib.Core.Path.{_≡_, refl, sym, ap, subst, _∙_}

@@ -1,5 +1,4 @@
 -- What every state keeps that comes about: it is valid, and every tree is filled.
--- Assumes nothing.
 use mathlib.Core.List.{List, [], _∷_}
 use Prim.Native.Nat.{ℕ}
 use Rattle.geometry.specs.Limits.{names}
@@ -7,7 +6,7 @@ use Rattle.protocol.proofs.Rows.{by-row}
 use Rattle.protocol.proofs.Validity.{each-after-set, by-status, formatted-is-closed, formatted-is-valid, commands-keep-valid}
 use Rattle.protocol.specs.Commands.{edited, rows, rowFor}
 use Rattle.protocol.specs.Respond.{reply, respond, stateAfter}
-use Rattle.protocol.specs.State.{Part, State, closed, opened, formatted, partOf, unpromised}
+use Rattle.protocol.specs.State.{Part, State, closed, opened, freshState, partOf, unpromised}
 use Rattle.protocol.specs.Valid.{Valid}
 use Rattle.protocol.specs.declared.Command.{Command}
 use Rattle.shape.proofs.Filled.{emptyT-filled, insertT-filled, deleteT-filled}
@@ -63,6 +62,6 @@ fill-stays-after s (c ∷ cs) filled = fill-stays-after (respond trees s c .stat
 pub validity-stays-after : (s : State Tree) (cs : List Command) → Valid trees s → Valid trees (stateAfter trees s cs)
 validity-stays-after = commands-keep-valid trees trees-are-faithful
 
--- a formatted pool is both
-pub formatted-is-valid-and-filled : (shares : ℕ) → Valid trees (formatted shares) × FilledState (formatted shares)
+-- a freshState pool is both
+pub formatted-is-valid-and-filled : (shares : ℕ) → Valid trees (freshState shares) × FilledState (freshState shares)
 formatted-is-valid-and-filled shares = (formatted-is-valid trees shares, λ name. rw (formatted-is-closed names name) tt)

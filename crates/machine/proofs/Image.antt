@@ -1,5 +1,4 @@
 -- A tree's edits are Definition 1's on its marks, so the machine answers and goes on as the one on lists does, but for the depth.
--- Assumes nothing.
 use mathlib.Core.List.{List}
 use mathlib.Core.Path.{_≡_, refl}
 use Rattle.protocol.proofs.Agreement.{respond-on-lists, answers-on-lists, state-after-on-lists}

@@ -1,5 +1,4 @@
 -- A name's reply goes by its part and the command alone, the status of an opening aside; and that status is the part's own or 12.
--- Assumes nothing.
 use mathlib.Core.Bool.{Bool, true, false, cond, _&&_}
 use mathlib.Core.List.{List, [], _∷_, _++_}
 use mathlib.Core.Logic.{_⊎_, _≢_, inl, inr, ⊎-elim}
@@ -23,7 +22,7 @@ use Rattle.protocol.specs.declared.Command.{Command}
 use Rattle.sequence.specs.Items.{All}
 use Rattle.shape.specs.Trees.{Tree, emptyT}
 use Rattle.machine.specs.Machine.{trees}
-use Rattle.machine.specs.OneName.{HasNames, replyIn, isOpening, OwnPartOnly, OthersStay}
+use Rattle.machine.specs.OneName.{HasNames, replyIn, isOpening, OwnPartOnly, OtherPartsStay}
 
 -- a name's reply where the status of an opening is given: of the state it looks at the name's part alone
 unfoldable pub replyAt : ℕ → Part Tree → Command → Reply Tree
@@ -132,7 +131,7 @@ own-part-only s c has below =
     ))
     (status-is-own-or-twelve free part c)
 
-pub others-stay : (s : State Tree) (c : Command) → OthersStay s c
+pub others-stay : (s : State Tree) (c : Command) → OtherPartsStay s c
 others-stay s c x other = other-parts-stay trees s c x other
 
 -- an opening that isn't refused leaves the empty leaf, whatever the name held before

@@ -1,6 +1,5 @@
 -- Demand 3's lemma. A name's answers and its part at the end are computed from its part, the commands naming it and the statuses of its
 -- openings alone, so two runs that agree in these agree in those.
--- Assumes nothing.
 use mathlib.Core.Bool.{Bool, true, false, cond}
 use mathlib.Core.List.{List, [], _∷_, map}
 use mathlib.Core.Path.{_≡_, refl, sym, ap, subst, _∙_}
@@ -13,7 +12,7 @@ use Rattle.protocol.proofs.Replies.{reply-status, respond-answer, names-stay, o
 use Rattle.protocol.specs.Commands.{openCode}
 use Rattle.protocol.specs.Frames.{bytesOfAnswer}
 use Rattle.protocol.specs.Respond.{Reply, reply, respond, answersTo, stateAfter}
-use Rattle.protocol.specs.State.{Part, State, formatted, partOf, unpromised}
+use Rattle.protocol.specs.State.{Part, State, freshState, partOf, unpromised}
 use Rattle.protocol.specs.declared.Answer.{Answer}
 use Rattle.protocol.specs.declared.Command.{Command}
 use Rattle.shape.specs.Trees.{Tree}
@@ -32,23 +31,23 @@ use Rattle.machine.specs.OneName.{
 use Rattle.machine.proofs.OwnParts.{replyAt, reply-at, others-stay}
 
 -- the answers to a name, and its part after them
-pub record Outcome : Type 0 where
+pub record RunOutcome : Type 0 where
   pub answers : List Answer
   pub part : Part Tree
 
 -- a reply before what comes after it
-abbrev pub before : Reply Tree → Outcome → Outcome
+abbrev pub before : Reply Tree → RunOutcome → RunOutcome
 before r o = record { answers = r .answer ∷ o .answers; part = o .part }
 
 -- what a name with this part answers to commands naming it, where the statuses of its openings are given
-unfoldable pub ownRun : Part Tree → List Command → List ℕ → Outcome
+unfoldable pub ownRun : Part Tree → List Command → List ℕ → RunOutcome
 ownRun part [] openings = record { answers = []; part = part }
 ownRun part (c ∷ cs) openings =
     let r = replyAt (getD openings 0 0) part c in
     before r (ownRun (r .part) cs (drop (cond (isOpening c) 1 0) openings))
 
 -- what a name sees of a run
-abbrev pub outcomeFor : ℕ → State Tree → List Command → Outcome
+abbrev pub outcomeFor : ℕ → State Tree → List Command → RunOutcome
 outcomeFor x s cs = record { answers = answersFor x s cs; part = partOf (stateAfter trees s cs) x }
 
 -- the statuses of the openings among commands, from their answers
@@ -56,7 +55,7 @@ abbrev statusesOf : List Command → List Answer → List ℕ
 statusesOf cs answers = map (λ a. a .status) (beside isOpening cs answers)
 
 -- one command of a name's own run, before what comes after it
-own-step : (free : ℕ) (part : Part Tree) (c : Command) (cs : List Command) (later : Outcome) → c .name < names
+own-step : (free : ℕ) (part : Part Tree) (c : Command) (cs : List Command) (later : RunOutcome) → c .name < names
     → later ≡ ownRun (reply trees free part c .part) cs (statusesOf cs (later .answers))
     → before (reply trees free part c) later ≡ ownRun part (c ∷ cs) (statusesOf (c ∷ cs) (before (reply trees free part c) later .answers))
 unfolding ownRun beside
@@ -94,7 +93,7 @@ module _ (x : ℕ) (below : x < names) where
       go : (t : Bool) → isTo x c ≡ t → outcomeFor x after cs ≡ ownRun (partOf after x) (framesTo x cs) (openingsOf x after cs)
           → let frames = cond t (c ∷ framesTo x cs) (framesTo x cs) in
           let answers = cond t (answer ∷ answersFor x after cs) (answersFor x after cs) in
-          _≡_ {A = Outcome}
+          _≡_ {A = RunOutcome}
           (record { answers = answers; part = partOf (stateAfter trees after cs) x })
           (ownRun (partOf s x) frames (statusesOf frames answers))
       go true is rest =
@@ -119,10 +118,10 @@ same-for-name x s t cs ds alike =
       end = ap (λ o. o .part) same;
     }
 
--- from freshly formatted pools of any two sizes
+-- from freshly freshState pools of any two sizes
 pub same-from-formatted : (x shares shares′ : ℕ) (cs ds : List Command) → x < names → framesTo x cs ≡ framesTo x ds
-    → openingsOf x (formatted shares) cs ≡ openingsOf x (formatted shares′) ds
-    → SameForName x (formatted shares) (formatted shares′) cs ds
+    → openingsOf x (freshState shares) cs ≡ openingsOf x (freshState shares′) ds
+    → SameForName x (freshState shares) (freshState shares′) cs ds
 same-from-formatted x shares shares′ cs ds below frames openings =
-    same-for-name x (formatted shares) (formatted shares′) cs ds
+    same-for-name x (freshState shares) (freshState shares′) cs ds
     (record { name = below; firstHas = refl; secondHas = refl; start = refl; frames = frames; openings = openings })

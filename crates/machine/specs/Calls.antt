@@ -1,5 +1,4 @@
 -- Commands cut into several lists, one for each call.
--- Assumes nothing.
 use mathlib.Core.List.{List, [], _∷_, _++_, flatten}
 use mathlib.Core.Path.{_≡_}
 use Rattle.protocol.specs.Respond.{answersTo, stateAfter}

@@ -1,5 +1,4 @@
 -- The depth that an answer tells, and document 01's rule for it.
--- Assumes nothing.
 use mathlib.Core.Logic.{_≢_}
 use mathlib.Core.Path.{_≡_}
 use Prim.Native.Nat.{ℕ, suc, _≤_, _<_}

@@ -1,5 +1,4 @@
 -- The index as one computing machine: protocol's `respond`, `answersTo` and `stateAfter`, with each open name's marks in a tree.
--- Assumes nothing.
 use mathlib.Core.List.{List, map}
 use mathlib.Core.Path.{_≡_}
 use Prim.Native.Nat.{ℕ}

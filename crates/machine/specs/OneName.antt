@@ -1,5 +1,4 @@
 -- What one name sees of a run. Its answers and its part go by its own part and its own commands, the statuses of its openings aside.
--- Assumes nothing.
 use mathlib.Core.Bool.{Bool, cond}
 use mathlib.Core.List.{List, [], _∷_, map}
 use mathlib.Core.Logic.{_⊎_, _≢_}
@@ -47,8 +46,8 @@ OwnPartOnly s c = HasNames s → c .name < names
     ⊎ ((c .code ≡ openCode) × (replyIn s c ≡ sharesLacking (partOf s (c .name)) c))
 
 -- no command changes the part of a name that it doesn't name
-abbrev pub OthersStay : State Tree → Command → Type 0
-OthersStay s c = (x : ℕ) → x ≢ c .name → AlikeAt x (respond trees s c .state) s
+abbrev pub OtherPartsStay : State Tree → Command → Type 0
+OtherPartsStay s c = (x : ℕ) → x ≢ c .name → AlikeAt x (respond trees s c .state) s
 
 -- Two runs.
 

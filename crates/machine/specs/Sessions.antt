@@ -1,5 +1,4 @@
 -- Document 01's example of the first program, as frames of eight bytes, and a session in which a tree grows and shrinks.
--- Assumes nothing.
 use mathlib.Core.List.{List, [], _∷_, _++_, map}
 use Prim.Native.Nat.{ℕ, _+_, _-_, _/_}
 use lib.ListN.{replicate, drop}
@@ -9,7 +8,7 @@ use Rattle.protocol.specs.Commands.{openCode, insertCode, deleteCode, accessCod
 use Rattle.protocol.specs.Edges.{toFirst}
 use Rattle.protocol.specs.Frames.{commandOf, bytesOfAnswer}
 use Rattle.protocol.specs.Respond.{answersTo}
-use Rattle.protocol.specs.State.{formatted}
+use Rattle.protocol.specs.State.{freshState}
 use Rattle.protocol.specs.declared.Command.{Command}
 use Rattle.machine.specs.Machine.{trees}
 
@@ -47,7 +46,7 @@ output =
 
 -- what the machine makes of frames on the program's pool
 unfoldable pub ran : List (List ℕ) → List (List ℕ)
-ran frames = map bytesOfAnswer (answersTo trees (formatted ((programPool - directorySize) / blockSize)) (map commandOf frames))
+ran frames = map bytesOfAnswer (answersTo trees (freshState ((programPool - directorySize) / blockSize)) (map commandOf frames))
 
 -- a name is opened, gets one mark more than a leaf can bear, and loses one
 unfoldable pub growing : List Command
@@ -58,4 +57,4 @@ growing =
 
 -- the depths in the answers past the opening and the inserts
 unfoldable pub lastDepths : List Command → List ℕ
-lastDepths cs = map (λ a. a .depth) (drop (mostLeaf + 2) (answersTo trees (formatted 6) cs))
+lastDepths cs = map (λ a. a .depth) (drop (mostLeaf + 2) (answersTo trees (freshState 6) cs))

@@ -1,5 +1,4 @@
 -- A mark put into a name and a mark taken out of it: each changes the name's tree by its own shape function, and the marks by Definition 1.
--- Assumes nothing.
 use mathlib.Core.Path.{_≡_, refl, ap}
 use mathlib.Core.List.{List}
 use mathlib.Core.Logic.{inl, inr, ⊎-elim}
@@ -30,7 +29,7 @@ use Rattle.tree_delete.specs.Trees.{TreeDeleted}
 use Rattle.tree_delete.specs.declared.tree.Removed.{Removed}
 use Rattle.name_edits.specs.Edits.{InsertAt, DeleteAt, InsertedAt, DeletedAt}
 use Rattle.name_edits.specs.Trees.{withTree}
-use Rattle.name_edits.proofs.NewTrees.{blocksBelow, TreeChanged, MarksFit, Storable, storable, tree-stored}
+use Rattle.name_edits.proofs.NewTrees.{blocksBelow, TreeChanged, MarksRecorded, Storable, storable, tree-stored}
 use Rattle.name_edits.proofs.TreesReady.{promise-most, insert-ready, delete-ready}
 
 -- An insert.
@@ -60,7 +59,7 @@ module _ (p q m n : List ℕ) (name i c : ℕ) (at : InsertAt p m name i c) (g :
         each = entered-turns (name + 1) m n (ins .entered);
       }
 
-  insert-fits : MarksFit (recordOf p name) (insertT oneToAByte c i (treeOf p name)) (recordOf p name .length + 1)
+  insert-fits : MarksRecorded (recordOf p name) (insertT oneToAByte c i (treeOf p name)) (recordOf p name .length + 1)
   insert-fits =
       let marks : marksT (insertT oneToAByte c i (treeOf p name)) ≡ insert c i (marksT (treeOf p name)) = insertT-marks oneToAByte c i (treeOf p name) in
       record {
@@ -89,7 +88,7 @@ module _ (p q m n : List ℕ) (name i : ℕ) (at : DeleteAt p m name i) (g : Rem
         each = freed-turns (name + 1) m n (del .freed);
       }
 
-  delete-fits : MarksFit (recordOf p name) (deleteT oneToAByte i (treeOf p name)) (recordOf p name .length - 1)
+  delete-fits : MarksRecorded (recordOf p name) (deleteT oneToAByte i (treeOf p name)) (recordOf p name .length - 1)
   delete-fits =
       let marks : marksT (deleteT oneToAByte i (treeOf p name)) ≡ delete i (marksT (treeOf p name)) = deleteT-marks oneToAByte i (treeOf p name) in
       record {

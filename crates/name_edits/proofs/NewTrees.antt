@@ -1,6 +1,5 @@
 -- An open name's tree was changed, in its own blocks and free ones, and then its record was written: the name is open with the new tree,
 -- and nothing else changed. The write touches no block, so the tree stands after it as before.
--- Assumes nothing.
 use mathlib.Core.Path.{_≡_, sym, ap, ap₂, subst, _∙_}
 use mathlib.Core.List.{List}
 use mathlib.Core.Logic.{inr}
@@ -57,7 +56,7 @@ pub record TreeChanged (name : ℕ) (t : Tree) (level root : ℕ) (p q m n : Lis
   pub each : (x : ℕ) → Turns (name + 1) (getD m x 0) (getD n x 0)
 
 -- its marks are the name's: of its alphabet, so many, and within its promise
-pub record MarksFit (r : Record) (t : Tree) (marks : ℕ) : Type 0 where
+pub record MarksRecorded (r : Record) (t : Tree) (marks : ℕ) : Type 0 where
   pub alphabet : AllBelow (r .alphabet) (marksT t)
   pub many : marks ≡ length (marksT t)
   pub room : marks ≤ marksPerShare * r .q
@@ -67,7 +66,7 @@ abbrev pub Storable : List ℕ → ℕ → ℕ → ℕ → Type 0
 Storable q name level root = (name < names) × (directorySize ≤ length q) × (level ≤ mostHeight) × (root < wordLimit)
 
 module _ (p q m n : List ℕ) (name : ℕ) (within : NameIn p m name) (old : OpenName p name)
-    (t : Tree) (level root marks : ℕ) (changed : TreeChanged name t level root p q m n) (fit : MarksFit (recordOf p name) t marks) where
+    (t : Tree) (level root marks : ℕ) (changed : TreeChanged name t level root p q m n) (fit : MarksRecorded (recordOf p name) t marks) where
   new-marks : marks ≡ marksIn level (shapeAt q level root)
   new-marks = fit .many ∙ ap (λ (t : Tree). length (marksT t)) (sym (changed .tree))
 

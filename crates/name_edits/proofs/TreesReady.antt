@@ -1,6 +1,5 @@
 -- An open name's tree is ready for an edit: a name's own soundness is its tree's, its alphabet is no larger than any, the exact map has
 -- its blocks as held, and what it was promised and hasn't taken is free.
--- Assumes nothing.
 use mathlib.Core.List.{List}
 use Prim.Native.Nat.{ℕ, _+_, _*_, _≤_, _<_}
 use native.Mathlib.Omega.{arith}

@@ -1,5 +1,4 @@
 -- What an insert and a delete by name need, and what they leave.
--- Assumes nothing.
 use mathlib.Core.Path.{_≡_}
 use mathlib.Core.List.{List}
 use Prim.Native.Nat.{ℕ, _+_, _*_, _≤_, _<_}

@@ -1,5 +1,4 @@
 -- A name's record after an edit of its tree.
--- Assumes nothing.
 use Prim.Native.Nat.{ℕ}
 use Rattle.geometry.specs.declared.Record.{Record}
 

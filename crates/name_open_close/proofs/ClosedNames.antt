@@ -1,5 +1,4 @@
 -- A name closed: its record says so, and just the blocks that it held are free in the map.
--- Assumes nothing.
 use mathlib.Core.Path.{_≡_, ap, _∙_}
 use mathlib.Core.List.{List}
 use mathlib.Core.Logic.{inl, inr, ⊎-elim}

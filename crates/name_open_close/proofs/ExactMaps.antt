@@ -1,6 +1,5 @@
 -- The exact map of a sound pool: its zeros are the free blocks, a byte name + 1 is a block of that name and of no other.
 -- After a change of one name's blocks it is exact again, where a block left the name just as it became free, and came to it just as it was taken.
--- Assumes nothing.
 use mathlib.Core.Path.{_≡_, sym, ap, _∙_}
 use mathlib.Core.Bool.{false, cond}
 use mathlib.Core.List.{List}

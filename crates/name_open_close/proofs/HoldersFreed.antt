@@ -1,5 +1,4 @@
 -- The loop that frees a holder's blocks: those passed are done, and those ahead are as they were.
--- Assumes nothing.
 use mathlib.Core.Path.{_≡_, refl, sym, ap, _∙_}
 use mathlib.Core.List.{List}
 use mathlib.Core.Logic.{⊎-elim}
@@ -18,8 +17,8 @@ pub record FreedBelow (holder passed : ℕ) (m n : List ℕ) : Type 0 where
   pub others : (b : ℕ) → (getD m b 0 ≡ holder → ⊥) → getD n b 0 ≡ getD m b 0
   pub ahead : (b : ℕ) → passed ≤ b → getD n b 0 ≡ getD m b 0
 
-pub freed-none : (holder : ℕ) (m : List ℕ) → FreedBelow holder 0 m m
-freed-none holder m = record { long = refl; freed = λ b low. absurd (omega arith); others = λ b other. refl; ahead = λ b high. refl }
+pub freed-below-none : (holder : ℕ) (m : List ℕ) → FreedBelow holder 0 m m
+freed-below-none holder m = record { long = refl; freed = λ b low. absurd (omega arith); others = λ b other. refl; ahead = λ b high. refl }
 
 module _ (holder passed : ℕ) (m n : List ℕ) (before : FreedBelow holder passed m n) where
   -- a block of the holder is freed

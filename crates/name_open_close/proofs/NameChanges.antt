@@ -1,6 +1,5 @@
 -- A change of one name: blocks that are its own or free, and its record. No other name is touched, and the header stays;
 -- so the pool is sound again where the name is, and the map exact.
--- Assumes nothing.
 use mathlib.Core.Path.{_≡_, sym, _∙_}
 use mathlib.Core.List.{List}
 use mathlib.Core.Logic.{_⊎_, ⊎-elim}

@@ -1,5 +1,4 @@
 -- A name opened: the block taken is its root, an empty leaf that nobody held, and the map has it as the name's.
--- Assumes nothing.
 use mathlib.Core.Path.{_≡_, ap, _∙_}
 use mathlib.Core.List.{List, [], _∷_}
 use mathlib.Core.Logic.{inr}
@@ -25,7 +24,7 @@ use Rattle.pool.proofs.Changed.{directory-blocks, word-in-block}
 use Rattle.pool.proofs.Meanings.{open-meaning}
 use Rattle.pool.proofs.SoundNames.{closed-blocks, open-blocks, unpromised-free}
 use Rattle.pool_blocks.specs.Moves.{Emptied}
-use Rattle.pool_holders.specs.Maps.{isFree, freeIn, Taken}
+use Rattle.pool_holders.specs.Maps.{isFree, freeIn, BlockTaken}
 use Rattle.pool_holders.proofs.Takes.{taken-long, taken-blocks, taken-entered}
 use Rattle.name_open_close.specs.Updates.{OpenReady, Updated}
 use Rattle.name_open_close.proofs.ExactMaps.{zeros-are-free, zero-count, entered-turns}
@@ -36,7 +35,7 @@ pub block-there : (p m : List ℕ) (name alphabet q : ℕ) → OpenReady p m nam
 block-there p m name alphabet q ready =
     omega (arith, ready .some, ready .room, unpromised-free p (ready .within .sound), zeros-are-free p m (ready .within .map))
 
-module _ (p q r m n : List ℕ) (name alphabet promise root : ℕ) (ready : OpenReady p m name alphabet promise) (taken : Taken (name + 1) root m n)
+module _ (p q r m n : List ℕ) (name alphabet promise root : ℕ) (ready : OpenReady p m name alphabet promise) (taken : BlockTaken (name + 1) root m n)
     (empty : Emptied root p q) (put : Record) (is : put ≡ openedRecord alphabet promise root) (written : PutRecord name put q r) where
   low : name < names
   low = ready .within .low

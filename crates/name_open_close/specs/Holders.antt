@@ -1,5 +1,4 @@
 -- All blocks of one holder given back to the map.
--- Assumes nothing.
 use mathlib.Core.Path.{_≡_}
 use mathlib.Core.List.{List}
 use Prim.Native.Nat.{ℕ}

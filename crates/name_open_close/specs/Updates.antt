@@ -1,5 +1,4 @@
 -- What an opening, a closing or an edit of one name leaves, and what an opening and a closing need.
--- Assumes nothing.
 use mathlib.Core.Path.{_≡_}
 use mathlib.Core.List.{List}
 use Prim.Native.Nat.{ℕ, _≤_, _<_}

@@ -1,5 +1,4 @@
 -- What changes leave alone: one, or several one after the other, said of bytes, words and blocks.
--- Assumes nothing.
 use mathlib.Core.Path.{_≡_, refl, _∙_}
 use mathlib.Core.List.{List}
 use mathlib.Core.Logic.{_⊎_, inl, inr}

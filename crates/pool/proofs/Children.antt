@@ -1,6 +1,5 @@
 -- A branch and its children: child k is item k of the shape, between those before and those after it; the blocks are the branch's own
 -- and the children's. All of it is the list of the children, cut at k.
--- Assumes nothing.
 use mathlib.Core.Path.{_≡_, refl, sym, ap, _∙_}
 use mathlib.Core.List.{List, [], _∷_, _++_, map}
 use Prim.Native.Nat.{ℕ, zero, suc, _+_, _-_, _≤_, _<_}

@@ -1,5 +1,4 @@
 -- Stretches of a pool as lists: `take n (drop a p)` is the n bytes from a on.
--- Assumes nothing.
 use mathlib.Core.Path.{_≡_, sym, ap, _∙_}
 use mathlib.Core.List.{List, [], _∷_, _++_}
 use Prim.Native.Nat.{ℕ, suc, _+_, _≤_, _<_}

@@ -1,6 +1,5 @@
 -- A number stands in a list where its count isn't 0. So no number twice means that every count is 1 at most,
 -- and the numbers below n that don't stand in such a list are n less its length, since the counts add up to it.
--- Assumes nothing.
 use mathlib.Core.Path.{_≡_, refl}
 use mathlib.Core.Bool.{cond}
 use mathlib.Core.List.{List, [], _∷_}

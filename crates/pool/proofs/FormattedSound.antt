@@ -1,5 +1,4 @@
 -- A formatted pool is sound, and stands for a state with every name closed: all its bytes but the first are 0.
--- Assumes nothing.
 use mathlib.Core.Path.{_≡_, refl, ap, ap₂}
 use mathlib.Core.List.{List}
 use mathlib.Core.Logic.{⊎-elim, inl}

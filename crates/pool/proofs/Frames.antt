@@ -1,6 +1,5 @@
 -- A change that leaves a tree's blocks alone leaves the tree: its shape, its blocks, and that it is sound.
 -- First one block: each of its words is as before. Then by level, the children in turn.
--- Assumes nothing.
 use mathlib.Core.Path.{_≡_, refl, sym, ap, ap₂, _∙_}
 use mathlib.Core.List.{List, _∷_, map}
 use Prim.Native.Nat.{ℕ, zero, suc, _+_, _-_, _*_, _≤_, _<_}

@@ -1,5 +1,4 @@
 -- What a function gives for so many numbers, as a list: go down the list, and let the start move on.
--- Assumes nothing.
 use mathlib.Core.Path.{_≡_, refl, sym, ap, ap₂, _∙_}
 use mathlib.Core.List.{List, [], _∷_, _++_, map}
 use mathlib.Core.Logic.{⊎-elim}

@@ -1,5 +1,4 @@
 -- A leaf's marks are its first bytes.
--- Assumes nothing.
 use mathlib.Core.Path.{_≡_, _∙_}
 use mathlib.Core.List.{List}
 use Prim.Native.Nat.{ℕ, zero, _+_, _≤_, _<_}

@@ -1,5 +1,4 @@
 -- Lists joined and mapped, item by item. Go down the list.
--- Assumes nothing.
 use mathlib.Core.Path.{_≡_, refl, ap, ap₂}
 use mathlib.Core.List.{List, [], _∷_, _++_, map}
 use Prim.Native.Nat.{ℕ, _+_}

@@ -1,5 +1,4 @@
 -- A sound pool stands for a valid state; a change of one name changes that name's part and no other. Name by name, closed or open.
--- Assumes nothing.
 use mathlib.Core.Path.{_≡_, refl, sym, ap, ap₂, _∙_}
 use mathlib.Core.Bool.{cond}
 use mathlib.Core.List.{List, [], _∷_}

@@ -1,5 +1,4 @@
 -- The steps of the loops that store bytes: one byte more is put, moved or cleared.
--- Assumes nothing.
 use mathlib.Core.Path.{_≡_, refl, _∙_}
 use mathlib.Core.List.{List}
 use Prim.Native.Nat.{ℕ, _+_, _/_, _%_, _≤_, _<_}

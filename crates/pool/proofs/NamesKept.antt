@@ -1,6 +1,5 @@
 -- A change that leaves a name's record and blocks alone leaves the name: what its record says, its tree, its blocks and that it is sound.
 -- The record is equal, and the rest are the laws of trees at its root.
--- Assumes nothing.
 use mathlib.Core.Path.{_≡_, sym, ap, _∙_}
 use mathlib.Core.Bool.{cond}
 use mathlib.Core.List.{List, []}

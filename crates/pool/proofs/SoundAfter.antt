@@ -1,6 +1,5 @@
 -- A pool is sound after a change of one name, where that name is sound again, nobody else holds its blocks, and its shares are there.
 -- The other names are as they were; counts of blocks and sums of shares change by what that name's changed.
--- Assumes nothing.
 use mathlib.Core.Path.{_≡_, ap, _∙_}
 use mathlib.Core.List.{List}
 use mathlib.Core.Logic.{_⊎_, ⊎-elim}

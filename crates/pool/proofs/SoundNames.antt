@@ -1,6 +1,5 @@
 -- What a sound pool says of its names: document 01's promises of blocks and depth, from the theory of the tree at the name's own tree;
 -- and the free blocks, since no block is held twice.
--- Assumes nothing.
 use mathlib.Core.Path.{_≡_, ap, _∙_}
 use mathlib.Core.Bool.{cond}
 use mathlib.Core.List.{List, []}

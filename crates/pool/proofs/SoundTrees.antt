@@ -1,6 +1,5 @@
 -- What a sound tree is: filled as the theory of the tree asks, of marks below the alphabet, in blocks of the pool.
 -- By level, each child by what its parent says of it.
--- Assumes nothing.
 use mathlib.Core.List.{List}
 use Prim.Native.Nat.{ℕ, zero, suc, _≤_, _<_}
 use native.Mathlib.Omega.{arith}

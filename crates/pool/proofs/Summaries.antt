@@ -1,6 +1,5 @@
 -- What a block says of its own marks is true of a sound tree, so an entry that says the same of its child is right. A branch adds
 -- up what its entries tell.
--- Assumes nothing.
 use mathlib.Core.Path.{_≡_, refl, sym, _∙_}
 use mathlib.Core.List.{List}
 use Prim.Native.Nat.{ℕ, zero, suc, _<_}

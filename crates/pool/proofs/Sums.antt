@@ -1,5 +1,4 @@
 -- Sums over the numbers below n: by induction on n, as they are defined.
--- Assumes nothing.
 use mathlib.Core.Path.{_≡_, refl, ap, ap₂}
 use mathlib.Core.Logic.{⊎-elim}
 use Prim.Native.Nat.{ℕ, zero, suc, _+_, _-_, _≤_, _<_}

@@ -1,6 +1,5 @@
 -- The way down: a path of the shape names a child at each level, so the blocks entered are blocks of the tree, one for each level,
 -- and the last of them bears the leaf that the path leads to.
--- Assumes nothing.
 use mathlib.Core.Path.{_≡_, refl, sym, ap, subst, _∙_}
 use mathlib.Core.List.{List, [], _∷_}
 use Prim.Native.Nat.{ℕ, zero, suc, _≤_, _<_}

@@ -1,5 +1,4 @@
 -- Words and the two bytes that make them.
--- Assumes nothing.
 use mathlib.Core.Path.{_≡_, ap₂}
 use mathlib.Core.List.{List}
 use Prim.Native.Nat.{ℕ, _+_, _*_, _/_, _%_, _≤_, _<_}

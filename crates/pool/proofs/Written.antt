@@ -1,5 +1,4 @@
 -- Records of names: what the stores of one leave, and what leaves one alone.
--- Assumes nothing.
 use mathlib.Core.Path.{_≡_, refl, sym, ap, _∙_}
 use mathlib.Core.List.{List}
 use Prim.Native.Nat.{ℕ, zero, suc, _+_, _-_, _<_}

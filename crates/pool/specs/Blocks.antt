@@ -1,5 +1,4 @@
 -- What a block says: its form, its entries, and of a branch each child's block, the marks below it and how many of them are each symbol.
--- Assumes nothing.
 use mathlib.Core.List.{List}
 use Prim.Native.Nat.{ℕ, _+_, _*_}
 use lib.ListN.{take, drop}

@@ -1,5 +1,4 @@
 -- Bytes and words of a pool, and where its records and blocks stand.
--- Assumes nothing.
 use mathlib.Core.List.{List, [], _∷_}
 use Prim.Native.Nat.{ℕ, zero, suc, _+_, _-_, _*_, _/_}
 use lib.ListN.{length, getD}

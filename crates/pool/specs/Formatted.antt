@@ -1,5 +1,4 @@
 -- A formatted pool.
--- Assumes nothing.
 use mathlib.Core.List.{List, _∷_}
 use Prim.Native.Nat.{ℕ, _-_}
 use lib.ListN.{replicate}

@@ -1,5 +1,4 @@
 -- What a pool stands for: the protocol's state, with each open name's tree.
--- Assumes nothing.
 use mathlib.Core.Bool.{cond}
 use mathlib.Core.List.{List}
 use Prim.Native.Nat.{ℕ}

@@ -1,5 +1,4 @@
 -- What the directory says of a name, and the tree and the blocks that it stands for.
--- Assumes nothing.
 use mathlib.Core.Bool.{cond}
 use mathlib.Core.List.{List, []}
 use Prim.Native.Nat.{ℕ, _+_}

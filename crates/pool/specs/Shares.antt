@@ -1,5 +1,4 @@
 -- Which blocks are free, and which shares are promised to no name.
--- Assumes nothing.
 use mathlib.Core.Bool.{Bool, cond}
 use mathlib.Core.List.{List}
 use Prim.Native.Nat.{ℕ, _-_}

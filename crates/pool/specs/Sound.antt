@@ -1,5 +1,4 @@
 -- A sound pool, point by point as docs/LAYOUT.md has it.
--- Assumes nothing.
 use mathlib.Core.Path.{_≡_}
 use mathlib.Core.List.{List}
 use mathlib.Core.Logic.{_⊎_}

@@ -1,5 +1,4 @@
 -- What stands below a block of a level: its shape, its blocks, the way down to a place, and what its own bytes say of its marks.
--- Assumes nothing.
 use mathlib.Core.List.{List, [], _∷_, map}
 use Prim.Native.Nat.{ℕ, zero, suc}
 use lib.ListN.{length}

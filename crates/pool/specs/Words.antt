@@ -1,5 +1,4 @@
 -- What reads of words give, and what single stores leave.
--- Assumes nothing.
 use mathlib.Core.Path.{_≡_}
 use mathlib.Core.List.{List}
 use Prim.Native.Nat.{ℕ, _+_, _<_}

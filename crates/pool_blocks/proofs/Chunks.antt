@@ -1,5 +1,4 @@
 -- A row of bytes as chunks of one size: where rows are joined or cut between chunks, so are the lists of chunks.
--- Assumes nothing.
 use mathlib.Core.Path.{_≡_, refl, sym, ap, ap₂, _∙_}
 use mathlib.Core.List.{List, [], _∷_, _++_}
 use Prim.Native.Nat.{ℕ, zero, suc, _+_, _-_, _*_, _≤_}

@@ -1,5 +1,4 @@
 -- A block emptied, its entries cut off to another block, and those of two blocks joined.
--- Assumes nothing.
 use mathlib.Core.Path.{_≡_, refl, sym, ap, ap₂, _∙_}
 use mathlib.Core.List.{List, _++_}
 use mathlib.Core.Logic.{inl, inr}

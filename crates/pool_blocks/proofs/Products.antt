@@ -1,5 +1,4 @@
 -- Entries and the bytes that they take: products of a unit, which numbers of entries bound.
--- Assumes nothing.
 use mathlib.Core.Path.{_≡_, ap}
 use Prim.Native.Nat.{ℕ, _*_, _≤_}
 use native.Mathlib.Nat.{mul-le-mul-left}

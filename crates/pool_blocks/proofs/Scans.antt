@@ -1,6 +1,5 @@
 -- A leaf's bytes looked at many at once: counted over the whole block, where places past the one asked for don't count, and passed by
 -- sixteens until those left to find are among the next.
--- Assumes nothing.
 use mathlib.Core.Path.{_≡_, sym, ap, _∙_}
 use mathlib.Core.List.{List}
 use mathlib.Core.Logic.{⊎-elim}

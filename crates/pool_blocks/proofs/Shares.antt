@@ -1,5 +1,4 @@
 -- The entries of two blocks cut anew: moved to the left block or to the right one.
--- Assumes nothing.
 use mathlib.Core.Path.{_≡_, refl, sym, ap, ap₂, _∙_}
 use mathlib.Core.List.{List, _++_}
 use mathlib.Core.Logic.{_⊎_, inl, inr}

@@ -1,5 +1,4 @@
 -- Stretches of bytes: parts of them, those of a block's entries, and those of a block that a change leaves alone.
--- Assumes nothing.
 use mathlib.Core.Path.{_≡_, ap, _∙_}
 use mathlib.Core.List.{List, _++_}
 use Prim.Native.Nat.{ℕ, _+_, _-_, _*_, _≤_}

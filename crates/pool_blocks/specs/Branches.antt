@@ -1,5 +1,4 @@
 -- What the edits of branches leave, said of their entries: link, marks below and all counts travel together.
--- Assumes nothing.
 use mathlib.Core.Path.{_≡_}
 use mathlib.Core.List.{List, [], _∷_, _++_}
 use mathlib.Core.Logic.{_⊎_}

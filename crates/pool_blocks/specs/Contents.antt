@@ -1,5 +1,4 @@
 -- The entries of a block as bytes: all of them in a row, and those of a branch one by one.
--- Assumes nothing.
 use mathlib.Core.Path.{_≡_}
 use mathlib.Core.List.{List}
 use Prim.Native.Nat.{ℕ, _+_, _*_, _≤_, _<_}

@@ -1,5 +1,4 @@
 -- What the edits of leaves leave, said of their marks. Places count from 1.
--- Assumes nothing.
 use mathlib.Core.Path.{_≡_}
 use mathlib.Core.List.{List, [], _∷_, _++_}
 use mathlib.Core.Logic.{_⊎_}

@@ -1,5 +1,4 @@
 -- What the moves of entries leave, said of the bytes of all entries in a row.
--- Assumes nothing.
 use mathlib.Core.Path.{_≡_}
 use mathlib.Core.List.{List, _++_}
 use mathlib.Core.Logic.{_⊎_}

@@ -1,5 +1,4 @@
 -- The whole check: refused by the length, the header, the shares promised, or the names, which are walked with a clear map.
--- Assumes nothing.
 use mathlib.Core.Bool.{Bool, true, false}
 use mathlib.Core.List.{List}
 use mathlib.Core.Path.{_≡_, refl, _∙_}

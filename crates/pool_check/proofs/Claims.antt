@@ -1,7 +1,6 @@
 -- A leaf by the counts that an entry claims. Each claim that isn't 0 is true, so no claim is more than the count; the counts of all symbols are at
 -- most the leaf's size. Claims that add up to it are therefore the counts, and every mark is one of the symbols claimed. Once the claims of the
 -- first symbols add up to it, the others are 0.
--- Assumes nothing.
 use mathlib.Core.Bool.{Bool, true, false}
 use mathlib.Core.List.{List}
 use mathlib.Core.Logic.{inl, inr, ⊎-elim}

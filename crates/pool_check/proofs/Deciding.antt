@@ -1,5 +1,4 @@
 -- Answers that decide a statement exactly.
--- Assumes nothing.
 use mathlib.Core.Bool.{Bool, true, false}
 use mathlib.Core.Path.{_≡_, refl}
 use Prim.Native.Nat.{ℕ, _≤_}
@@ -12,8 +11,8 @@ use Rattle.pool_check.specs.Says.{Says}
 pub never : {A : Type 0} → false ≡ true → A
 never e = absurd (let z : _≡_ {A = ℕ} 0 1 = cc in omega arith)
 
-pub answered : (r : Bool) → r ≡ true → r ≡ false → ⊥
-answered r so not = let z : _≡_ {A = ℕ} 0 1 = cc in omega arith
+pub not-both : (r : Bool) → r ≡ true → r ≡ false → ⊥
+not-both r so not = let z : _≡_ {A = ℕ} 0 1 = cc in omega arith
 
 module _ {A : Type 0} where
   pub say-yes : A → Says true A
@@ -22,9 +21,9 @@ module _ {A : Type 0} where
   pub say-no : (A → ⊥) → Says false A
   say-no not = record { sound = λ e. never e; complete = λ a. absurd (not a) }
 
-  -- what was answered false does not hold
+  -- what was not-both false does not hold
   pub denied : {r : Bool} → Says r A → r ≡ false → A → ⊥
-  denied {r} says not a = answered r (says .complete a) not
+  denied {r} says not a = not-both r (says .complete a) not
 
 -- the same answer to a statement that holds just where the first does
 pub say-same : {A B : Type 0} {r : Bool} → (A → B) → (B → A) → Says r A → Says r B

@@ -1,5 +1,4 @@
 -- Entering a block: it is refused by the first test that it fails, and marked where it fails none.
--- Assumes nothing.
 use mathlib.Core.Bool.{true, false}
 use mathlib.Core.List.{List, [], _∷_}
 use mathlib.Core.Path.{_≡_, refl}

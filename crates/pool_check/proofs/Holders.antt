@@ -1,6 +1,5 @@
 -- The map after all names: it starts clear, and each name's blocks are marked with its number plus 1. So each block that is marked is held,
 -- new blocks all along are blocks that no name holds twice, and in a sound pool the map says who holds each block.
--- Assumes nothing.
 use mathlib.Core.List.{List}
 use mathlib.Core.Logic.{⊎-elim}
 use mathlib.Core.Path.{_≡_, refl, _∙_}

@@ -1,5 +1,4 @@
 -- Lengths that a pool may have, test by test.
--- Assumes nothing.
 use mathlib.Core.Bool.{false}
 use mathlib.Core.Path.{_≡_}
 use Prim.Native.Nat.{ℕ, _%_, _≤_, _<_}

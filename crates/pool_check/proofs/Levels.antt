@@ -1,5 +1,4 @@
 -- The least entries of a root, at a level that the code tested.
--- Assumes nothing.
 use mathlib.Core.Path.{_≡_, refl}
 use Prim.Native.Nat.{ℕ}
 use Rattle.geometry.specs.Layout.{leastBranch}

@@ -1,5 +1,4 @@
 -- What a map says after blocks were met, and what it means that each of them was new: no block twice, and none that the map had before.
--- Assumes nothing.
 use mathlib.Core.List.{List, [], _∷_}
 use mathlib.Core.Logic.{⊎-elim}
 use mathlib.Core.Path.{_≡_, refl, sym, _∙_}

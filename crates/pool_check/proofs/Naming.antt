@@ -1,5 +1,4 @@
 -- One name: closed, its record is zeros and it holds no block; open, its record is in order, its tree is walked, and its length is what the root says.
--- Assumes nothing.
 use mathlib.Core.Bool.{Bool, true, false, cond}
 use mathlib.Core.List.{List, []}
 use mathlib.Core.Logic.{inl, inr, ⊎-elim}

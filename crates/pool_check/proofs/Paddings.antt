@@ -1,6 +1,5 @@
 -- A leaf's marks filled up: counted to any place, a symbol stands in both equally often. A place behind the leaf's marks adds to neither, since
 -- what stands there is no symbol.
--- Assumes nothing.
 use mathlib.Core.List.{List}
 use mathlib.Core.Path.{_≡_, refl, sym, ap, _∙_}
 use Prim.Native.Nat.{ℕ, suc, _+_, _-_, _≤_, _<_}

@@ -1,5 +1,4 @@
 -- Reading the map: a block is held just where the map has a number other than 0, and then by the name below that number.
--- Assumes nothing.
 use mathlib.Core.Bool.{false}
 use mathlib.Core.List.{List}
 use mathlib.Core.Logic.{⊎-elim}

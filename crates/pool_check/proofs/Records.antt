@@ -1,5 +1,4 @@
 -- The record of an open name, test by test: it is refused by the first that fails.
--- Assumes nothing.
 use mathlib.Core.Bool.{Bool, false}
 use mathlib.Core.List.{List}
 use mathlib.Core.Path.{_≡_, ap, _∙_}

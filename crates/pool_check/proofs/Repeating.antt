@@ -1,5 +1,4 @@
 -- What a block says of its marks, at a level that the code tested; and an entry compared with it, one symbol after the other.
--- Assumes nothing.
 use mathlib.Core.Bool.{Bool, false}
 use mathlib.Core.List.{List}
 use mathlib.Core.Logic.{⊎-elim}

@@ -1,5 +1,4 @@
 -- Stretches of bytes that are 0, byte by byte, and the header, which is a byte with such a stretch behind it.
--- Assumes nothing.
 use mathlib.Core.Bool.{Bool, true, false}
 use mathlib.Core.List.{List}
 use mathlib.Core.Path.{_≡_}

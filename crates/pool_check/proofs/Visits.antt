@@ -1,5 +1,4 @@
 -- The names in turn: each is walked with the map that those before it left.
--- Assumes nothing.
 use mathlib.Core.Bool.{Bool, true, false}
 use mathlib.Core.List.{List}
 use mathlib.Core.Path.{_≡_, refl, ap, _∙_}

@@ -1,6 +1,5 @@
 -- The walk over a tree. A leaf is entered, and that is all; a branch is entered, and its children are walked in turn. Of a child the tree is
 -- walked first, and then its entry is tested, with the marks of a leaf: for a sound tree, to repeat its summary is to tell its marks.
--- Assumes nothing.
 use mathlib.Core.Bool.{Bool, true, false}
 use mathlib.Core.List.{List, [], _∷_}
 use mathlib.Core.Logic.{⊎-elim}
@@ -93,8 +92,8 @@ module _ (p : List ℕ) (alphabet tag : ℕ) where
   no-children h b k (suc left) map none = absurd (omega arith)
 
   module _ (h b k : ℕ) where
-    abbrev Tree : Type 0
-    Tree = WalkedTree p alphabet (least oneToAByte h) h (link p b k)
+    abbrev TreeWalked : Type 0
+    TreeWalked = WalkedTree p alphabet (least oneToAByte h) h (link p b k)
 
     -- what its entry tells, and what a test of the entry shows
     abbrev Told : Type 0
@@ -104,29 +103,29 @@ module _ (p : List ℕ) (alphabet tag : ℕ) where
     Shown = Matches p alphabet h b k (link p b k)
 
     -- child k and those behind it
-    first-child : (left : ℕ) → (Tree × (Told × SoundChildren p alphabet h b (suc k) left)) → SoundChildren p alphabet h b k (suc left)
+    first-child : (left : ℕ) → (TreeWalked × (Told × SoundChildren p alphabet h b (suc k) left)) → SoundChildren p alphabet h b k (suc left)
     first-child left g j low high =
         ⊎-elim (λ (e : k ≡ j). rw (sym e) (g .0 .0, below-of p alphabet h (link p b k) (g .0 .1) (g .1 .0 .0), g .1 .0 .1))
         (λ (l : k < j). g .1 .1 j (omega arith) (omega arith))
         (eq-or-lt-of-le low)
 
-    child-first : (left : ℕ) → SoundChildren p alphabet h b k (suc left) → Tree × (Told × SoundChildren p alphabet h b (suc k) left)
+    child-first : (left : ℕ) → SoundChildren p alphabet h b k (suc left) → TreeWalked × (Told × SoundChildren p alphabet h b (suc k) left)
     child-first left g =
         let here = g k (omega arith) (omega arith) in
         ((here .0, under-of p alphabet h (link p b k) (here .1)), ((fit-of p alphabet h (link p b k) (here .1), here .2), λ j low high. g j (omega arith) (omega arith)))
 
-    tree-tells : Tree → Shown → Told
+    tree-tells : TreeWalked → Shown → Told
     tree-tells tree shown = (
       shown .fit,
       tells-own p alphabet (least oneToAByte h) h b k (tree .0) (below-of p alphabet h (link p b k) (tree .1) (shown .fit)) (shown .same .marks) (shown .same .counts),
     )
 
-    tells-tree : Tree → Told → Shown
+    tells-tree : TreeWalked → Told → Shown
     tells-tree tree told =
         let own = own-told p alphabet (least oneToAByte h) h b k (tree .0) (below-of p alphabet h (link p b k) (tree .1) (told .0)) (told .1) in
         record { fit = told .0; same = record { marks = own .0; counts = own .1 } }
 
-    module _ (map after : List ℕ) (r : Bool) (walked : Walked r Tree tag (blocksAt p h (link p b k)) map after) where
+    module _ (map after : List ℕ) (r : Bool) (walked : Walked r TreeWalked tag (blocksAt p h (link p b k)) map after) where
       refused : (left : ℕ) → r ≡ false → Walked false (SoundChildren p alphabet h b k (suc left)) tag (joined (blocksAt p h) (from (link p b) k (suc left))) map after
       unfolding from
       refused left failed =
@@ -153,7 +152,7 @@ module _ (p : List ℕ) (alphabet tag : ℕ) where
   -- the same as the code has it: the child's block and the least entries in locals, and so many children left, not 0
   module _ (h b k child fewest : ℕ) (map after : List ℕ) (r : Bool) (walked : Walked r (WalkedTree p alphabet fewest h child) tag (blocksAt p h child) map after) where
     module _ (linked : Is (link p b k) child) (few : fewest ≡ least oneToAByte h) where
-      there : Walked r (Tree h b k) tag (blocksAt p h (link p b k)) map after
+      there : Walked r (TreeWalked h b k) tag (blocksAt p h (link p b k)) map after
       there = rw (linked .is, few) at walked
 
       pub child-refused : (left : ℕ) → (left ≡ 0 → ⊥) → r ≡ false

@@ -1,5 +1,4 @@
 -- Walks over blocks, one after the other: the map threads through, and the first walk that fails ends them.
--- Assumes nothing.
 use mathlib.Core.Bool.{Bool, true, false}
 use mathlib.Core.List.{List, [], _∷_, _++_}
 use mathlib.Core.Path.{_≡_, refl, sym, ap, _∙_}
@@ -7,7 +6,7 @@ use Prim.Native.Nat.{ℕ}
 use lib.ListN.{set}
 use Rattle.pool_check.specs.Maps.{meet, New, Walked}
 use Rattle.pool_check.specs.Says.{Says}
-use Rattle.pool_check.proofs.Deciding.{never, answered, say-no, say-same}
+use Rattle.pool_check.proofs.Deciding.{never, not-both, say-no, say-same}
 
 module _ (tag : ℕ) where
   pub meet-append : (m xs ys : List ℕ) → meet tag m (xs ++ ys) ≡ meet tag (meet tag m xs) ys
@@ -54,7 +53,7 @@ module _ (tag : ℕ) where
   -- the first of two fails
   pub walk-fails : {A B : Type 0} {r : Bool} (xs ys m m′ m″ : List ℕ) → r ≡ false → Walked r A tag xs m m′ → Walked false (A × B) tag (xs ++ ys) m m″
   walk-fails {r = r} xs ys m m′ m″ failed first =
-      walk-no (xs ++ ys) m m″ (λ g new. answered r (first .says .complete (g .0, new-front m xs ys new)) failed)
+      walk-no (xs ++ ys) m m″ (λ g new. not-both r (first .says .complete (g .0, new-front m xs ys new)) failed)
 
   -- a walk that succeeds, and a test of no further block: C is what the test says, given what the walk found
   pub walk-test : {A B C : Type 0} {r s : Bool} (bs m m′ : List ℕ) → r ≡ true → Walked r A tag bs m m′ → Says s B → (A → B → C) → (A → C → B)

@@ -1,5 +1,4 @@
 -- The map of blocks: 0 for a block that nobody holds, else the holder's name plus 1. The walk meets a tree's blocks in turn.
--- Assumes nothing.
 use mathlib.Core.Bool.{Bool, true, false}
 use mathlib.Core.List.{List, [], _∷_}
 use mathlib.Core.Path.{_≡_}

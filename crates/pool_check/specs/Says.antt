@@ -1,5 +1,4 @@
 -- A test that decides a statement exactly.
--- Assumes nothing.
 use mathlib.Core.Bool.{Bool, true}
 use mathlib.Core.Path.{_≡_}
 

@@ -1,5 +1,4 @@
 -- A level that the code tested: what holds at a leaf's, or at any branch's with the level below it; and the least and the most entries there.
--- Assumes nothing.
 use mathlib.Core.Path.{_≡_, refl, sym, subst}
 use Prim.Native.Nat.{ℕ, zero, suc, _-_}
 use native.Mathlib.Omega.{arith}

@@ -1,5 +1,4 @@
 -- What a change of one entry leaves of its block and of the pool.
--- Assumes nothing.
 use mathlib.Core.Path.{_≡_}
 use mathlib.Core.List.{List}
 use Prim.Native.Nat.{ℕ, _+_, _*_, _≤_, _<_}

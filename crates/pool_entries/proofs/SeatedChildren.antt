@@ -1,6 +1,5 @@
 -- The child that was chosen by what the entries tell takes the place: so what is left of the place is in its range, and the way down goes on
 -- from it.
--- Assumes nothing.
 use mathlib.Core.Path.{_≡_, sym, ap, ap₂, _∙_}
 use mathlib.Core.List.{List, _∷_}
 use Prim.Native.Nat.{ℕ, suc, _-_, _≤_, _<_, min}

@@ -1,5 +1,4 @@
 -- The choice among two or three children, by the measures of the first two: a number past the first goes to the second, and past both to the third if there is one.
--- Assumes nothing.
 use mathlib.Core.Path.{_≡_, refl}
 use Prim.Native.Nat.{ℕ, zero, suc, _+_, _≤_, _<_}
 use native.Mathlib.Omega.{arith}

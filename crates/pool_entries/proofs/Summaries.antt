@@ -1,5 +1,4 @@
 -- A block's summary: from what a leaf counts and a branch adds up, and at any level.
--- Assumes nothing.
 use mathlib.Core.Path.{_≡_, refl, ap, _∙_}
 use mathlib.Core.List.{List}
 use Prim.Native.Nat.{ℕ, zero, suc, _+_, _-_, _*_, _≤_, _<_}
@@ -17,11 +16,11 @@ use Rattle.sequence.specs.Definition1.{count}
 use Rattle.shape.specs.Sizes.{oneToAByte, most}
 use Rattle.pool_entries.specs.Summaries.{Is, wordsAt, SummaryOf, SmallSums}
 use Rattle.pool_entries.specs.declared.Summary.{Summary}
-use Rattle.pool_entries.proofs.Filling.{Filled, fill-all}
+use Rattle.pool_entries.proofs.Filling.{CountsFilled, fill-all}
 use Rattle.pool_entries.proofs.Totals.{sum-counts}
 
 -- marks, and all counts filled in
-pub summary-full : (p : List ℕ) (h b marks c : ℕ) (counts : List ℕ) → marks ≡ ownMarks p h b → Filled (ownCount p h b) c counts → mostAlphabet ≤ c
+pub summary-full : (p : List ℕ) (h b marks c : ℕ) (counts : List ℕ) → marks ≡ ownMarks p h b → CountsFilled (ownCount p h b) c counts → mostAlphabet ≤ c
     → SummaryOf p h b (record { marks = marks; counts = counts })
 summary-full p h b marks c counts so filled end = record { marks = so; counts = fill-all (ownCount p h b) c counts filled end }
 

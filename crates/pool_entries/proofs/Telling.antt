@@ -1,5 +1,4 @@
 -- What entries tell of their children's marks: one that is written, and the others of its block.
--- Assumes nothing.
 use mathlib.Core.Path.{_≡_, ap, _∙_}
 use mathlib.Core.List.{List}
 use Prim.Native.Nat.{ℕ, _-_, _<_}

@@ -1,5 +1,4 @@
 -- The choice of a child.
--- Assumes nothing.
 use mathlib.Core.Path.{_≡_}
 use Prim.Native.Nat.{ℕ, suc, _+_, _≤_, _<_}
 use Rattle.sequence.specs.Alphabet.{sumBelow}

@@ -1,5 +1,4 @@
 -- The summary of a block: what its own bytes say of its marks.
--- Assumes nothing.
 use mathlib.Core.Path.{_≡_}
 use mathlib.Core.List.{List}
 use Prim.Native.Nat.{ℕ, _+_, _<_}

@@ -1,5 +1,4 @@
 -- Blocks given back to the map: each is free then, and the rest of the map is as before.
--- Assumes nothing.
 use mathlib.Core.Path.{_≡_, refl, sym, ap, _∙_}
 use mathlib.Core.List.{List}
 use mathlib.Core.Logic.{inl, inr, ⊎-elim}

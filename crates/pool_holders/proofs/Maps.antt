@@ -1,5 +1,4 @@
 -- A map that fits its pool: it still does after an edit, which changes the length of neither.
--- Assumes nothing.
 use mathlib.Core.Path.{_≡_}
 use mathlib.Core.List.{List}
 use Prim.Native.Nat.{ℕ}

@@ -1,5 +1,4 @@
 -- Blocks taken from the map: what is found is free, and entering it takes one from the free ones and nothing else.
--- Assumes nothing.
 use mathlib.Core.Path.{_≡_, refl, sym, ap, _∙_}
 use mathlib.Core.List.{List, [], _∷_}
 use mathlib.Core.Logic.{inl, inr, ⊎-elim}
@@ -10,13 +9,13 @@ use lib.Seq.{getD-set-same, getD-set-other}
 use Rattle.sequence.specs.Definition1.{isMark, count, access, select}
 use Rattle.sequence.proofs.Counts.{isMark-same, isMark-other, isMark-cases, isMark-le-one}
 use Rattle.sequence.proofs.Selects.{select-le-length, select-positive, access-select}
-use Rattle.pool_holders.specs.Maps.{isFree, freeIn, Taken, Entered}
+use Rattle.pool_holders.specs.Maps.{isFree, freeIn, BlockTaken, Entered}
 
 -- the first free block is found
 pub found-place : (m : List ℕ) → 1 ≤ freeIn m → 1 ≤ select 0 m 1
 found-place m some = select-positive 0 m 1 (omega arith) some
 
-pub found-taken : (m : List ℕ) (holder place : ℕ) → 1 ≤ freeIn m → place ≡ select 0 m 1 → Taken holder (place - 1) m (set m (place - 1) holder)
+pub found-taken : (m : List ℕ) (holder place : ℕ) → 1 ≤ freeIn m → place ≡ select 0 m 1 → BlockTaken holder (place - 1) m (set m (place - 1) holder)
 unfolding access
 found-taken m holder place some is =
     let low : 1 ≤ place = omega (arith, found-place m some) in
@@ -35,7 +34,7 @@ count-set (x ∷ m) zero holder inside free named =
     omega (arith, isMark-same 0 x free, isMark-other 0 holder none)
 count-set (x ∷ m) (suc b) holder inside free named = omega (arith, count-set m b holder (omega arith) free named)
 
-module _ (holder b : ℕ) (m n : List ℕ) (named : 0 < holder) (taken : Taken holder b m n) where
+module _ (holder b : ℕ) (m n : List ℕ) (named : 0 < holder) (taken : BlockTaken holder b m n) where
   pub taken-one : freeIn m ≡ freeIn n + 1
   taken-one = rw (taken .entered) (count-set m b holder (taken .inside) (taken .free) named)
 

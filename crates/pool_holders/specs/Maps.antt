@@ -1,5 +1,4 @@
 -- The map of the blocks' holders: a byte for each block of the pool, 0 where it is free, else the number that stands for its holder.
--- Assumes nothing.
 use mathlib.Core.Path.{_≡_}
 use mathlib.Core.List.{List}
 use mathlib.Core.Logic.{_⊎_}
@@ -27,7 +26,7 @@ abbrev pub Agrees : List ℕ → List ℕ → Type 0
 Agrees m blocks = (x : ℕ) → count x blocks + isFree m x ≤ 1
 
 -- a free block is taken and entered for the holder; the rest of the map is as before
-pub record Taken (holder block : ℕ) (before after : List ℕ) : Type 0 where
+pub record BlockTaken (holder block : ℕ) (before after : List ℕ) : Type 0 where
   pub inside : block < length before
   pub free : getD before block 0 ≡ 0
   pub entered : after ≡ set before block holder

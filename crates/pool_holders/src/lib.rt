@@ -1,13 +1,13 @@
 // The map of the blocks' holders: a byte for each block of the pool, 0 where it is free, else the number that stands for its holder.
 ghost use Prim.Native.Nat.{_≤_, _<_};
 ghost use lib.ListN.{length};
-ghost use Rattle.pool_holders.specs.Maps.{freeIn, Taken, GivenBack};
+ghost use Rattle.pool_holders.specs.Maps.{freeIn, BlockTaken, GivenBack};
 use sequence::find;
 
 // Takes the first free block for a holder.
 pub fn take_block(map: &mut [u8], holder: u8) -> usize
     requires { ⌜ 1 ≤ freeIn (now map) ⌝ }
-    ensures { λ r. ⌜ Taken holder r (now (map .entry)) (now (map .exit)) ⌝ }
+    ensures { λ r. ⌜ BlockTaken holder r (now (map .entry)) (now (map .exit)) ⌝ }
 {
     let block = find(map, 0, 1) - 1;
     map[block] = holder;

@@ -1,6 +1,5 @@
 -- Drafts with their answers. The places that a batch's drafts keep are those of its frames, in order. The loop that puts the answers there
 -- goes line by line: what stands before, and what will be made of the rest, are always the whole.
--- Assumes nothing.
 use mathlib.Core.Bool.{true, false}
 use mathlib.Core.Path.{_≡_, refl, sym, ap, _∙_}
 use mathlib.Core.List.{List, [], _∷_, _++_, append-assoc, append-nil}
@@ -23,7 +22,7 @@ use Rattle.protocol.specs.declared.Command.{Command}
 use Rattle.shape.specs.Nested.{joined}
 use Rattle.program_batches.specs.Answers.{badAnswer, lineOfAnswer, lineOfBytes}
 use Rattle.program_batches.specs.Batch.{draftOf, keptByte, keptIn, completed, PutsAnswer, Completes}
-use Rattle.program_batches.proofs.Framed.{commandsOf}
+use Rattle.program_batches.proofs.Framed.{commandsRead}
 
 -- a line in front of others
 pub take-line : (a b c d n : ℕ) (rest : List ℕ) → take lineSize (lineOf a b c d n ++ rest) ≡ lineOf a b c d n
@@ -42,7 +41,7 @@ unfolding lineOf digitsOfFrame digitsOf digitOf
 bad-keeps-none rest = refl
 
 -- one place for each frame
-pub kept-in-drafts : (rs : List Reading) (rest : List ℕ) → keptIn (length rs) (joined draftOf rs ++ rest) ≡ length (commandsOf rs)
+pub kept-in-drafts : (rs : List Reading) (rest : List ℕ) → keptIn (length rs) (joined draftOf rs ++ rest) ≡ length (commandsRead rs)
 unfolding keptIn
 kept-in-drafts [] rest = refl
 kept-in-drafts (Frame code name symbol fourth number ∷ rs) rest =

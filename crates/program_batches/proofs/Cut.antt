@@ -1,6 +1,5 @@
 -- A line of which only the first bytes are kept reads as the whole line does, where one byte more than the digits of a frame is kept: a
 -- line that was cut is too long to be one.
--- Assumes nothing.
 use mathlib.Core.Path.{_≡_, sym, ap, _∙_}
 use mathlib.Core.List.{List}
 use Prim.Native.Nat.{ℕ, _≤_, min}

@@ -1,5 +1,4 @@
 -- An answer's eight bytes have its digits: eight digits tell a number up to 2^32, and so do four bytes.
--- Assumes nothing.
 use mathlib.Core.Path.{_≡_, sym, ap, _∙_}
 use mathlib.Core.List.{[], _∷_, _++_}
 use Prim.Native.Nat.{ℕ, _+_, _*_, _/_, _%_, _^_}

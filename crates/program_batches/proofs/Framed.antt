@@ -1,5 +1,4 @@
 -- The commands of a batch: what digits spell fits the bytes of a frame, and each frame has eight.
--- Assumes nothing.
 use mathlib.Core.Bool.{Bool, true, false, cond}
 use mathlib.Core.Path.{_≡_, refl}
 use mathlib.Core.List.{List, [], _∷_, map}
@@ -8,7 +7,7 @@ use native.Mathlib.Omega.{arith}
 use lib.Dec.{eqb}
 use lib.ListN.{length, take, drop, length-append, length-take}
 use Rattle.geometry.specs.Limits.{frameSize}
-use Rattle.text_hex.specs.Digits.{allDigits, numberOf}
+use Rattle.text_hex.specs.Digits.{allDigits, numberOfDigits}
 use Rattle.text_hex.specs.Lines.{frameOf, spelled, lineDigits, isFrame}
 use Rattle.text_hex.specs.declared.read.Reading.{Reading}
 use Rattle.text_hex.specs.declared.read.Reading.the-variants.{Frame, Bad}
@@ -25,10 +24,10 @@ commandFrom code name symbol fourth number =
     record { code = code; name = name; symbol = symbol; fourth = fourth; number = number }
 
 -- the commands of the lines that are frames
-abbrev pub commandsOf : List Reading → List Command
-commandsOf [] = []
-commandsOf (Frame code name symbol fourth number ∷ rs) = commandFrom code name symbol fourth number ∷ commandsOf rs
-commandsOf (Bad ∷ rs) = commandsOf rs
+abbrev pub commandsRead : List Reading → List Command
+commandsRead [] = []
+commandsRead (Frame code name symbol fourth number ∷ rs) = commandFrom code name symbol fourth number ∷ commandsRead rs
+commandsRead (Bad ∷ rs) = commandsRead rs
 
 -- a frame's numbers fit their bytes
 abbrev pub Fits : Reading → Type 0
@@ -50,7 +49,7 @@ fits-spelled line digits =
       number = part 8 8;
     }
   where
-    part : (at many : ℕ) → numberOf (take many (drop at line)) < 16 ^ many
+    part : (at many : ℕ) → numberOfDigits (take many (drop at line)) < 16 ^ many
     part at many =
         number-fits (take many (drop at line)) many (omega (arith, length-take many (drop at line))) (all-digits-part at many line digits)
 
@@ -68,7 +67,7 @@ fits-lines [] = tt
 fits-lines (line ∷ lines) = (fits-line line, fits-lines lines)
 
 -- eight bytes for each command
-pub length-of-batch : (rs : List Reading) → length (joined bytesOf rs) ≡ frameSize * length (commandsOf rs)
+pub length-of-batch : (rs : List Reading) → length (joined bytesOf rs) ≡ frameSize * length (commandsRead rs)
 length-of-batch [] = refl
 length-of-batch (Frame code name symbol fourth number ∷ rs) =
     omega (arith, length-of-batch rs, length-append (eightBytes code name symbol fourth number) (joined bytesOf rs))

@@ -1,6 +1,5 @@
 -- What each step of reading a chunk leaves. A line that ends is put: its draft and its command, if it has one, stand behind those of the
 -- lines before it, and it is the next line of the input. Bytes that end no line are gathered.
--- Assumes nothing.
 use mathlib.Core.Bool.{Bool, true, false}
 use mathlib.Core.Path.{_≡_, refl, sym, ap, ap₂, _∙_}
 use mathlib.Core.List.{List, [], _∷_, _++_, map, map-append, append-nil}

@@ -1,5 +1,4 @@
 -- Answers as lines of digits.
--- Assumes nothing.
 use mathlib.Core.List.{List}
 use Prim.Native.Nat.{ℕ}
 use lib.ListN.{getD}
@@ -9,8 +8,8 @@ use Rattle.protocol.specs.Frames.{commandOf}
 use Rattle.protocol.specs.declared.Answer.{Answer}
 
 -- the answer that has these numbers
-abbrev pub answerOf : List ℕ → Answer
-answerOf numbers =
+abbrev pub answerIn : List ℕ → Answer
+answerIn numbers =
     record {
       status = getD numbers 0 0;
       name = getD numbers 1 0;
@@ -21,7 +20,7 @@ answerOf numbers =
 
 -- the answer to a bad line: FF00000000000000
 abbrev pub badAnswer : Answer
-badAnswer = answerOf (numbersOf Bad)
+badAnswer = answerIn (numbersOf Bad)
 
 -- an answer as a line: sixteen digits and a line feed
 abbrev pub lineOfAnswer : Answer → List ℕ

@@ -1,5 +1,4 @@
 -- The lines of one call: a bad line is answered at once, a frame joins the commands and a line of zeros keeps its answer's place.
--- Assumes nothing.
 use mathlib.Core.Bool.{false, cond}
 use mathlib.Core.Path.{_≡_}
 use mathlib.Core.List.{List, [], _++_, map}

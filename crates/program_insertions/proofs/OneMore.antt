@@ -1,6 +1,5 @@
 -- One line more: its frame stands behind those of the lines before it, or it has none, where the limit is reached. By induction on the
 -- lines, and by whether there are fewer than the limit.
--- Assumes nothing.
 use mathlib.Core.Path.{_≡_, sym, ap, _∙_}
 use mathlib.Core.Bool.{cond}
 use mathlib.Core.List.{List, [], _∷_, _++_, append-nil, append-assoc}
@@ -80,10 +79,10 @@ mark-of-front line room columns (no long) =
     rw cut (mark-of-kept line room columns)
 
 -- the kept columns have the line's frame
-pub frame-of-held : (lines : ℕ) (line : List ℕ) (s : Gathered) (keep : List ℕ) → Holds line s keep → lastColumn ≤ length keep
+pub frame-of-line-held : (lines : ℕ) (line : List ℕ) (s : Gathered) (keep : List ℕ) → Holds line s keep → lastColumn ≤ length keep
     → frameAfter lines (take (s .kept) keep) ≡ frameAfter lines line
 unfolding frameAfter frameAt
-frame-of-held lines line s keep holds columns =
+frame-of-line-held lines line s keep holds columns =
     let mark : markOf (take (s .kept) keep) ≡ markOf line =
     ap markOf (holds .bytes) ∙ ap (λ k. markOf (take k line)) (holds .kept)
     ∙ mark-of-front line (length keep) columns (decLe (length line) (length keep))

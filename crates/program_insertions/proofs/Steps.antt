@@ -1,5 +1,4 @@
--- What each step leaves of `Follows`. A line that ends brings its frame, by the laws on one line more; bytes that end none are gathered.
--- Assumes nothing.
+-- What each step leaves of `FileFollows`. A line that ends brings its frame, by the laws on one line more; bytes that end none are gathered.
 use mathlib.Core.Bool.{Bool, true, false}
 use mathlib.Core.Path.{_≡_, refl, sym, ap, _∙_}
 use mathlib.Core.List.{List, [], _∷_, _++_, append-nil, append-assoc}
@@ -19,11 +18,11 @@ use Rattle.text_lines.proofs.Chunks.{rest-is}
 use Rattle.text_lines.proofs.Cut.{ended-append, left-append, ended-plain, left-plain, ended-line, left-line}
 use Rattle.text_lines.proofs.Held.{no-last-line, last-line}
 use Rattle.protocol.specs.Commands.{insertCode}
-use Rattle.program_insertions.specs.Frames.{file, frameAt, framesOf, framesFrom, framesOfLines, frameAfter}
-use Rattle.program_insertions.specs.Stream.{Follows, Starts, TakesIn, GoesOn, PutsFrame, Ends}
+use Rattle.program_insertions.specs.Frames.{file, frameAt, framesOfFile, framesFrom, framesOfLines, frameAfter}
+use Rattle.program_insertions.specs.Stream.{FileFollows, FileStarts, FileTakesIn, GoesOn, PutsFrame, FileEnds}
 use Rattle.program_insertions.specs.declared.Progress.{Progress}
-use Rattle.program_insertions.specs.declared.Taken.{Taken}
-use Rattle.program_insertions.proofs.OneMore.{frames-of-one-more, frame-after-limit, frame-of-held}
+use Rattle.program_insertions.specs.declared.FileTaken.{FileTaken}
+use Rattle.program_insertions.proofs.OneMore.{frames-of-one-more, frame-after-limit, frame-of-line-held}
 
 -- the frames with one line more, where the frame of what is kept of it has been put
 frames-with : (lines : List (List ℕ)) (line earlier out out' : List ℕ) (many filled result : ℕ) (s : Gathered) (keep : List ℕ)
@@ -36,7 +35,7 @@ frames-with lines line earlier out out' many filled result s keep holds columns 
     ∙ append-assoc earlier (take filled out) (frameAfter (length lines) line)
     ∙ ap (λ l. earlier ++ l)
     (ap (λ l. take filled out ++ l)
-    (sym (frame-after-limit (length lines) line) ∙ ap (λ k. frameAfter k line) (sym is) ∙ sym (frame-of-held many line s keep holds columns))
+    (sym (frame-after-limit (length lines) line) ∙ ap (λ k. frameAfter k line) (sym is) ∙ sym (frame-of-line-held many line s keep holds columns))
     ∙ sym (put .frame))
 
 module _ (bytes : List ℕ) (before : Progress) (keep keep' out out' : List ℕ) (filled : ℕ) (g : Gathering)
@@ -79,7 +78,7 @@ module _ (bytes : List ℕ) (before : Progress) (keep keep' out out' : List ℕ)
   pub line-taken : (start : Gathered) (front : List ℕ) (result lines : ℕ) → ((returns : Bool) (kept : List ℕ) → Stands returns [] start kept) → g .ended ≡ true
       → front ≡ take (g .line .kept) keep' → PutsFrame front (before .lines) out out' filled result → lines ≡ min mostMarks (before .lines + 1)
       → GoesOn bytes before keep keep' out out' filled (record { taken = g .taken; filled = result; after = record { line = start; lines = lines } })
-  line-taken start front result lines starts ends is-front put is =
+  line-taken start front result lines file-starts ends is-front put is =
       record {
         takes = record {
           within = gathers .within;
@@ -91,15 +90,15 @@ module _ (bytes : List ℕ) (before : Progress) (keep keep' out out' : List ℕ)
         onward = λ room some. gathers .onward some;
       }
     where
-      follows : (input earlier : List ℕ) → Follows input earlier before keep out filled
-          → Follows (input ++ take (g .taken) bytes) earlier (record { line = start; lines = lines }) keep' out' result
+      follows : (input earlier : List ℕ) → FileFollows input earlier before keep out filled
+          → FileFollows (input ++ take (g .taken) bytes) earlier (record { line = start; lines = lines }) keep' out' result
       follows input earlier f =
           let line : List ℕ = trim true (left [] input ++ piece bytes g) in
           let columns : lastColumn ≤ length keep' = omega (arith, gathers .same, f .columns) in
           let more = line-more input ends in
           let held : Holds line (g .line) keep' = gathers .stands (left [] input) (f .line) .line in
           record {
-            line = rw (nothing-left input ends) (starts true keep');
+            line = rw (nothing-left input ends) (file-starts true keep');
             columns = columns;
             lines = rw (more, length-append) (omega (arith, f .lines));
             room = put .room;
@@ -123,8 +122,8 @@ module _ (bytes : List ℕ) (before : Progress) (keep keep' out out' : List ℕ)
         onward = λ room some. gathers .onward some;
       }
     where
-      follows : (input earlier : List ℕ) → Follows input earlier before keep out filled
-          → Follows (input ++ take (g .taken) bytes) earlier (record { line = g .line; lines = before .lines }) keep' out filled
+      follows : (input earlier : List ℕ) → FileFollows input earlier before keep out filled
+          → FileFollows (input ++ take (g .taken) bytes) earlier (record { line = g .line; lines = before .lines }) keep' out filled
       follows input earlier f =
           record {
             line = rw (more-left input goes-on) (gathers .stands (left [] input) (f .line));
@@ -135,9 +134,9 @@ module _ (bytes : List ℕ) (before : Progress) (keep keep' out out' : List ℕ)
           }
 
 -- nothing has been read
-pub starts : (line : Gathered) → ((returns : Bool) (keep : List ℕ) → Stands returns [] line keep) → Starts (record { line = line; lines = 0 })
+pub file-starts : (line : Gathered) → ((returns : Bool) (keep : List ℕ) → Stands returns [] line keep) → FileStarts (record { line = line; lines = 0 })
 unfolding framesOfLines framesFrom ended left
-starts line stands =
+file-starts line stands =
     record {
       follows =
           λ keep out columns.
@@ -146,7 +145,7 @@ starts line stands =
 
 -- no byte has been taken yet
 pub none-yet : (chunk : List ℕ) (before : Progress) (keep out : List ℕ)
-    → TakesIn chunk before keep keep out out 0 (record { taken = 0; filled = 0; after = before })
+    → FileTakesIn chunk before keep keep out out 0 (record { taken = 0; filled = 0; after = before })
 none-yet chunk before keep out =
     record {
       within = omega arith;
@@ -157,12 +156,12 @@ none-yet chunk before keep out =
     }
 
 -- two steps, one after the other
-pub both-taken : (chunk : List ℕ) (before between : Progress) (keep keep₁ keep₂ out out₁ out₂ : List ℕ) (at filled : ℕ) (step : Taken)
-    → TakesIn chunk before keep keep₁ out out₁ 0 (record { taken = at; filled = filled; after = between })
-    → TakesIn (take (length chunk - at) (drop at chunk)) between keep₁ keep₂ out₁ out₂ filled step
-    → TakesIn chunk before keep keep₂ out out₂ 0 (record { taken = at + step .taken; filled = step .filled; after = step .after })
+pub both-taken : (chunk : List ℕ) (before between : Progress) (keep keep₁ keep₂ out out₁ out₂ : List ℕ) (at filled : ℕ) (step : FileTaken)
+    → FileTakesIn chunk before keep keep₁ out out₁ 0 (record { taken = at; filled = filled; after = between })
+    → FileTakesIn (take (length chunk - at) (drop at chunk)) between keep₁ keep₂ out₁ out₂ filled step
+    → FileTakesIn chunk before keep keep₂ out out₂ 0 (record { taken = at + step .taken; filled = step .filled; after = step .after })
 both-taken chunk before between keep keep₁ keep₂ out out₁ out₂ at filled step so-far part =
-    let next : TakesIn (drop at chunk) between keep₁ keep₂ out₁ out₂ filled step = rw (rest-is chunk at) at part in
+    let next : FileTakesIn (drop at chunk) between keep₁ keep₂ out₁ out₂ filled step = rw (rest-is chunk at) at part in
     record {
       within = omega (arith, so-far .within, next .within, length-drop at chunk);
       same = next .same ∙ so-far .same;
@@ -200,8 +199,8 @@ no-frame-put line lines out filled room over =
 
 module _ (before : Progress) (keep keep' out out' : List ℕ) (last : Gathered) (finishes : Finishes (before .line) keep keep' last) where
   -- the input ends with a line feed, or is empty
-  pub ends-whole : last .length ≡ 0 → Ends before keep keep' out out 0
-  unfolding framesOf linesOf
+  pub ends-whole : last .length ≡ 0 → FileEnds before keep keep' out out 0
+  unfolding framesOfFile linesOf
   ends-whole none =
       record {
         same = finishes .same;
@@ -217,8 +216,8 @@ module _ (before : Progress) (keep keep' out out' : List ℕ) (last : Gathered) 
 
   -- a last line has no line feed
   pub ends-open : (front : List ℕ) (result : ℕ) → (last .length ≡ 0 → ⊥) → front ≡ take (last .kept) keep' → PutsFrame front (before .lines) out out' 0 result
-      → Ends before keep keep' out out' result
-  unfolding framesOf linesOf
+      → FileEnds before keep keep' out out' result
+  unfolding framesOfFile linesOf
   ends-open front result some is-front put =
       record {
         same = finishes .same;

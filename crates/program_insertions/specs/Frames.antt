@@ -1,5 +1,4 @@
 -- The insert frames of a Fortran file, over the whole input: what the second program writes.
--- Assumes nothing.
 use mathlib.Core.Bool.{true, cond}
 use mathlib.Core.List.{List, [], _∷_, _++_}
 use Prim.Native.Nat.{ℕ, _+_}
@@ -29,8 +28,8 @@ unfoldable pub framesOfLines : List (List ℕ) → List ℕ
 framesOfLines lines = framesFrom 1 (take mostMarks lines)
 
 -- the frames of a whole file; a carriage return before a line feed belongs to the line's end
-unfoldable pub framesOf : List ℕ → List ℕ
-framesOf input = framesOfLines (linesOf true input)
+unfoldable pub framesOfFile : List ℕ → List ℕ
+framesOfFile input = framesOfLines (linesOf true input)
 
 -- the frame of a line after so many others, of which those past the limit have none
 unfoldable pub frameAfter : ℕ → List ℕ → List ℕ

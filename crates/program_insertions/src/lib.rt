@@ -5,7 +5,7 @@ ghost use Prim.Native.Nat.{_+_, _≤_, min};
 ghost use lib.ListN.{length};
 ghost use Rattle.geometry.specs.Limits.{mostMarks};
 ghost use Rattle.text_hex.specs.Lines.{lineSize};
-ghost use Rattle.program_insertions.specs.Stream.{Starts, PutsFrame, GoesOn, Ends};
+ghost use Rattle.program_insertions.specs.Stream.{FileStarts, PutsFrame, GoesOn, FileEnds};
 use geometry::Record;
 use protocol::Command;
 use text_fixed_form::mark;
@@ -24,7 +24,7 @@ pub struct Progress {
 }
 
 // What came of a chunk's bytes.
-pub struct Taken {
+pub struct FileTaken {
     // how many bytes were taken from the chunk's front
     pub taken: usize,
     // how many bytes of frames stand at the front of the output
@@ -36,7 +36,7 @@ pub struct Taken {
 impl Progress {
     // Nothing has been read yet.
     pub fn start() -> Progress
-        ensures { λ r. ⌜ Starts r ⌝ }
+        ensures { λ r. ⌜ FileStarts r ⌝ }
     {
         Progress {
             line: Gathered::start(),
@@ -47,7 +47,7 @@ impl Progress {
 
 // Takes a chunk's bytes in from the front and puts the frames of the lines that end among them into out, for as long as out has room
 // for one more.
-pub fn take_in(chunk: &[u8], before: Progress, keep: &mut [u8], out: &mut [u8]) -> Taken
+pub fn take_in(chunk: &[u8], before: Progress, keep: &mut [u8], out: &mut [u8]) -> FileTaken
     ensures { λ r. ⌜ GoesOn (now (chunk .entry)) before (now (keep .entry)) (now (keep .exit)) (now (out .entry)) (now (out .exit)) 0 r ⌝ }
 {
     let mut at = 0;
@@ -55,7 +55,7 @@ pub fn take_in(chunk: &[u8], before: Progress, keep: &mut [u8], out: &mut [u8]) 
     let mut progress = before;
     while at < chunk.len() {
         if out.len() - filled < LINE_SIZE {
-            return Taken {
+            return FileTaken {
                 taken: at,
                 filled,
                 after: progress,
@@ -66,7 +66,7 @@ pub fn take_in(chunk: &[u8], before: Progress, keep: &mut [u8], out: &mut [u8]) 
         filled = step.filled;
         progress = step.after;
     }
-    Taken {
+    FileTaken {
         taken: at,
         filled,
         after: progress,
@@ -80,7 +80,7 @@ fn take_line(
     keep: &mut [u8],
     out: &mut [u8],
     filled: usize,
-) -> Taken
+) -> FileTaken
     requires { ⌜ filled + lineSize ≤ length (now out) ⌝ }
     ensures { λ r. ⌜ GoesOn (now (bytes .entry)) before (now (keep .entry)) (now (keep .exit)) (now (out .entry)) (now (out .exit)) filled r ⌝ }
 {
@@ -92,7 +92,7 @@ fn take_line(
     if ended {
         let kept = line.kept;
         let filled = put_frame(first_bytes(keep, kept), lines, out, filled);
-        return Taken {
+        return FileTaken {
             taken,
             filled,
             after: Progress {
@@ -101,7 +101,7 @@ fn take_line(
             },
         };
     }
-    Taken {
+    FileTaken {
         taken,
         filled,
         after: Progress { line, lines },
@@ -111,7 +111,7 @@ fn take_line(
 // The file is over: puts the frame of its last line, if that has no line feed but a byte, at the front of out.
 pub fn finish(before: Progress, keep: &mut [u8], out: &mut [u8]) -> usize
     requires { ⌜ lineSize ≤ length (now out) ⌝ }
-    ensures { λ r. ⌜ Ends before (now (keep .entry)) (now (keep .exit)) (now (out .entry)) (now (out .exit)) r ⌝ }
+    ensures { λ r. ⌜ FileEnds before (now (keep .entry)) (now (keep .exit)) (now (out .entry)) (now (out .exit)) r ⌝ }
 {
     let line = text_lines::finish(before.line, keep);
     if line.length == 0 {

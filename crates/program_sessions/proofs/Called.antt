@@ -1,6 +1,5 @@
 -- The call that a batch makes. The bytes of its frames, one behind the other, stand for its frames in order; the machine's answers to
 -- them, put at the places that the drafts keep, make the answers to all lines.
--- Assumes nothing.
 use mathlib.Core.Path.{_≡_, refl, ap, ap₂, _∙_}
 use mathlib.Core.List.{List, [], _∷_, _++_, append-assoc}
 use Prim.Native.Nat.{ℕ}
@@ -11,7 +10,7 @@ use Rattle.program_batches.specs.Answers.{badAnswer, lineOfAnswer}
 use Rattle.program_batches.specs.Batch.{draftOf, bytesOf, completed}
 use Rattle.program_batches.proofs.Completed.{take-line, drop-line, zeros-keep, bad-keeps-none}
 use Rattle.program_batches.proofs.Digits.{line-of-bytes}
-use Rattle.program_batches.proofs.Framed.{commandFrom, commandsOf, AllFit}
+use Rattle.program_batches.proofs.Framed.{commandFrom, commandsRead, AllFit}
 use Rattle.geometry.specs.Limits.{frameSize}
 use Rattle.text_hex.specs.Lines.{lineOf}
 use Rattle.text_hex.specs.declared.read.Reading.{Reading}
@@ -35,7 +34,7 @@ unfolding commandsIn eights from
 one-command bytes long = rw long (ap (λ l. commandOf l ∷ []) (take-all frameSize bytes (omega arith)))
 
 -- the bytes of lines are the commands of their frames
-pub commands-in-batch : (rs : List Reading) → AllFit rs → commandsIn (joined bytesOf rs) ≡ commandsOf rs
+pub commands-in-batch : (rs : List Reading) → AllFit rs → commandsIn (joined bytesOf rs) ≡ commandsRead rs
 unfolding commandsIn eights from bytesOfCommand
 commands-in-batch [] fits = refl
 commands-in-batch (Frame code name symbol fourth number ∷ rs) fits =
@@ -47,7 +46,7 @@ commands-in-batch (Frame code name symbol fourth number ∷ rs) fits =
 commands-in-batch (Bad ∷ rs) fits = commands-in-batch rs (fits .1)
 
 -- bad lines change nothing
-pub state-after-lines : (rs : List Reading) (s : State Tree) → stateAfterLines s rs ≡ stateAfter trees s (commandsOf rs)
+pub state-after-lines : (rs : List Reading) (s : State Tree) → stateAfterLines s rs ≡ stateAfter trees s (commandsRead rs)
 unfolding stateAfterLines stateAfter
 state-after-lines [] s = refl
 state-after-lines (Frame code name symbol fourth number ∷ rs) s = state-after-lines rs (respond trees s (commandFrom code name symbol fourth number) .state)
@@ -55,7 +54,7 @@ state-after-lines (Bad ∷ rs) s = state-after-lines rs s
 
 -- the answers to the frames at the kept places
 pub completed-drafts : (rs : List Reading) (s : State Tree) (rest more : List ℕ)
-    → completed (length rs) (joined draftOf rs ++ rest) (joined bytesOfAnswer (answersTo trees s (commandsOf rs)) ++ more)
+    → completed (length rs) (joined draftOf rs ++ rest) (joined bytesOfAnswer (answersTo trees s (commandsRead rs)) ++ more)
     ≡ joined lineOfAnswer (answersToLines s rs)
 unfolding completed answersTo answersToLines
 completed-drafts [] s rest more = refl
@@ -63,7 +62,7 @@ completed-drafts (Frame code name symbol fourth number ∷ rs) s rest more =
     let c = commandFrom code name symbol fourth number in
     let a : Answer = respond trees s c .answer in
     let next : State Tree = respond trees s c .state in
-    let later : List ℕ = joined bytesOfAnswer (answersTo trees next (commandsOf rs)) in
+    let later : List ℕ = joined bytesOfAnswer (answersTo trees next (commandsRead rs)) in
     rw (
       append-assoc (lineOf 0 0 0 0 0) (joined draftOf rs) rest,
       zeros-keep (joined draftOf rs ++ rest),

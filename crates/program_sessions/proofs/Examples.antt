@@ -1,5 +1,4 @@
 -- The definition computes: document 01's session, to the byte, and the lines that it calls bad.
--- Assumes nothing.
 use mathlib.Core.List.{[], _∷_}
 use mathlib.Core.Path.{_≡_, refl}
 use Rattle.program_batches.specs.Answers.{badAnswer, lineOfAnswer, lineOfBytes}

@@ -1,6 +1,5 @@
 -- From chunk to chunk. The lines of a call that was accepted are answered from the state that the pool stood for; put behind the lines
 -- before them, they are the session so far.
--- Assumes nothing.
 use mathlib.Core.Bool.{Bool, false}
 use mathlib.Core.Logic.{inr, ⊎-elim}
 use mathlib.Core.Path.{_≡_, refl, sym, ap, ap₂, _∙_}
@@ -14,7 +13,7 @@ use Rattle.program_batches.specs.Answers.{lineOfAnswer}
 use Rattle.program_batches.specs.Batch.{draftOf, bytesOf, keptIn, completed, BatchRead, Completes}
 use Rattle.program_batches.specs.declared.Batch.{Batch}
 use Rattle.program_batches.proofs.Completed.{kept-in-drafts}
-use Rattle.program_batches.proofs.Framed.{commandsOf, fits-lines, length-of-batch}
+use Rattle.program_batches.proofs.Framed.{commandsRead, fits-lines, length-of-batch}
 use Rattle.geometry.specs.Limits.{frameSize, longestCommands, directorySize, blockSize}
 use Rattle.text_hex.specs.Lines.{frameOf, lineSize}
 use Rattle.text_hex.specs.declared.read.Reading.{Reading}
@@ -38,10 +37,10 @@ use Rattle.protocol.specs.State as State
 use Rattle.shape.specs.Nested.{joined}
 use Rattle.shape.specs.Trees.{Tree}
 use Rattle.shape.proofs.Folds.{joined-append}
-use Rattle.program_sessions.specs.Call.{Asks, Answers}
+use Rattle.program_sessions.specs.Call.{Asks, AnswersLines}
 use Rattle.program_sessions.specs.Session.{responseTo, answersToLines, stateAfterLines, atStart, writtenFor, sessionOf}
-use Rattle.program_sessions.specs.Stream.{readFrom, Follows, Starts, TakesIn, Ends}
-use Rattle.program_sessions.specs.declared.Taken.{Taken}
+use Rattle.program_sessions.specs.Stream.{readFrom, SessionFollows, SessionStarts, SessionTakesIn, SessionEnds}
+use Rattle.program_sessions.specs.declared.SessionTaken.{SessionTaken}
 use Rattle.program_sessions.proofs.Called.{commands-in-batch, state-after-lines, completed-drafts}
 
 -- what is at the front of a buffer, in front of its rest
@@ -63,11 +62,11 @@ module _ (p q commands room answers out out' : List ℕ) (lines : ℕ) (r : Outc
   same-pool (no other) = ap length (refused other)
 
   -- the commands are those of the lines that are frames
-  frames-run : (ls : List (List ℕ)) → commands ≡ joined bytesOf (map frameOf ls) → commandsIn commands ≡ commandsOf (map frameOf ls)
+  frames-run : (ls : List (List ℕ)) → commands ≡ joined bytesOf (map frameOf ls) → commandsIn commands ≡ commandsRead (map frameOf ls)
   frames-run ls is = ap commandsIn is ∙ commands-in-batch (map frameOf ls) (fits-lines ls)
 
   -- the lines were run and answered
-  pub lines-answered : Answers p q commands out out' lines
+  pub lines-answered : AnswersLines p q commands out out' lines
   lines-answered =
       record {
         long = done .long;
@@ -85,7 +84,7 @@ module _ (p q commands room answers out out' : List ℕ) (lines : ℕ) (r : Outc
           → take (lineSize * lines) out' ≡ joined lineOfAnswer (answersToLines (meaning p) (map frameOf ls))
       all-answered ls is many drafts sound =
           let rs : List Reading = map frameOf ls in
-          let given : answers ≡ joined bytesOfAnswer (answersTo trees (meaning p) (commandsOf rs)) ++ drop (length commands) room =
+          let given : answers ≡ joined bytesOfAnswer (answersTo trees (meaning p) (commandsRead rs)) ++ drop (length commands) room =
           room-by-machine p commands room q answers (r .count) (answered sound)
           ∙ ap (λ cs. joined bytesOfAnswer (answersTo trees (meaning p) cs) ++ drop (length commands) room) (frames-run ls is)
           in
@@ -103,7 +102,7 @@ pub asks-lines : (ls : List (List ℕ)) (commands out : List ℕ) (lines frames 
 asks-lines ls commands out lines frames many drafts bytes room room-for-frames few =
     let rs : List Reading = map frameOf ls in
     let long : length (take (frameSize * frames) commands) ≡ frameSize * frames = length-take-le (frameSize * frames) commands room-for-frames in
-    let kept : keptIn lines out ≡ length (commandsOf rs) =
+    let kept : keptIn lines out ≡ length (commandsRead rs) =
     ap (λ n. keptIn n out) (many ∙ sym (length-map ls frameOf))
     ∙ ap (keptIn (length rs)) (front-and-rest out (joined draftOf rs) (lineSize * lines) drafts)
     ∙ kept-in-drafts rs (drop (lineSize * lines) out)
@@ -134,7 +133,7 @@ written-append rs more =
     ∙ joined-append lineOfAnswer (answersToLines atStart rs) (answersToLines (stateAfterLines atStart rs) more)
 
 -- the lines of a call, written behind what was written before
-written-with : (input written front : List ℕ) (before : Gathered) (keep p : List ℕ) (more : List Reading) → Follows input written before keep p
+written-with : (input written front : List ℕ) (before : Gathered) (keep p : List ℕ) (more : List Reading) → SessionFollows input written before keep p
     → front ≡ joined lineOfAnswer (answersToLines (meaning p) more) → written ++ front ≡ writtenFor (readFrom input ++ more)
 written-with input written front before keep p more f is =
     ap₂ (λ w l. w ++ l) (f .lines) (is ∙ ap (λ s. joined lineOfAnswer (answersToLines s more)) (f .meant)) ∙ sym (written-append (readFrom input) more)
@@ -147,8 +146,8 @@ module _ (chunk : List ℕ) (before : Gathered) (keep keep' p q out out₁ out�
       let r = read .reads in
       asks-lines (r .lines) commands out₁ (batch .lines) (batch .frames) (r .many) (r .drafts) (r .bytes) (r .room) (r .roomForFrames) few
 
-  pub chunk-taken : filled ≡ lineSize * batch .lines → Answers p q (take (frameSize * batch .frames) commands) out₁ out₂ (batch .lines)
-      → TakesIn chunk before keep keep' p q out out₂ (record { taken = batch .taken; filled = filled; line = batch .line })
+  pub chunk-taken : filled ≡ lineSize * batch .lines → AnswersLines p q (take (frameSize * batch .frames) commands) out₁ out₂ (batch .lines)
+      → SessionTakesIn chunk before keep keep' p q out out₂ (record { taken = batch .taken; filled = filled; line = batch .line })
   chunk-taken is done =
       record {
         within = read .reads .within;
@@ -161,8 +160,8 @@ module _ (chunk : List ℕ) (before : Gathered) (keep keep' p q out out₁ out�
         follows = follows;
       }
     where
-      follows : (input written : List ℕ) → Follows input written before keep p
-          → Follows (input ++ take (batch .taken) chunk) (written ++ take filled out₂) (batch .line) keep' q
+      follows : (input written : List ℕ) → SessionFollows input written before keep p
+          → SessionFollows (input ++ take (batch .taken) chunk) (written ++ take filled out₂) (batch .line) keep' q
       follows input written f =
           let r = read .reads in
           let taken : List ℕ = take (batch .taken) chunk in
@@ -188,7 +187,7 @@ module _ (chunk : List ℕ) (before : Gathered) (keep keep' p q out out₁ out�
           }
 
 -- the input is over, and ended with a line feed or is empty
-pub ends-whole : (before : Gathered) (keep p out : List ℕ) → before .length ≡ 0 → Ends before keep keep p p out out 0
+pub ends-whole : (before : Gathered) (keep p out : List ℕ) → before .length ≡ 0 → SessionEnds before keep keep p p out out 0
 unfolding sessionOf linesOf trim trims
 ends-whole before keep p out none =
     record {
@@ -211,8 +210,8 @@ ends-whole before keep p out none =
     }
 
 -- the input is over, and a line feed was taken in for the one that its last line lacks
-pub ends-open : (before : Gathered) (keep keep' p q out out' : List ℕ) (taken : Taken) → (before .length ≡ 0 → ⊥)
-    → TakesIn (lineFeed ∷ []) before keep keep' p q out out' taken → Ends before keep keep' p q out out' (taken .filled)
+pub ends-open : (before : Gathered) (keep keep' p q out out' : List ℕ) (taken : SessionTaken) → (before .length ≡ 0 → ⊥)
+    → SessionTakesIn (lineFeed ∷ []) before keep keep' p q out out' taken → SessionEnds before keep keep' p q out out' (taken .filled)
 unfolding sessionOf linesOf ended trim trims
 ends-open before keep keep' p q out out' taken some takes =
     record {
@@ -224,7 +223,7 @@ ends-open before keep keep' p q out out' taken some takes =
       over =
           λ room input written f.
           let one : taken .taken ≡ 1 = omega (arith, takes .within, takes .onward room (omega arith)) in
-          let then : Follows (input ++ (lineFeed ∷ [])) (written ++ take (taken .filled) out') (taken .line) keep' q =
+          let then : SessionFollows (input ++ (lineFeed ∷ [])) (written ++ take (taken .filled) out') (taken .line) keep' q =
           rw one at (takes .follows input written f)
           in
           let all-read : map frameOf (linesOf false input) ≡ readFrom (input ++ (lineFeed ∷ [])) =
@@ -239,9 +238,9 @@ ends-open before keep keep' p q out out' taken some takes =
     }
 
 -- the pool is formatted or as it was, and nothing has been read
-pub starts : (p q : List ℕ) (status : ℕ) (line : Gathered) → Formats p status q → ((returns : Bool) (keep : List ℕ) → Stands returns [] line keep) → Starts p q line
+pub session-starts : (p q : List ℕ) (status : ℕ) (line : Gathered) → Formats p status q → ((returns : Bool) (keep : List ℕ) → Stands returns [] line keep) → SessionStarts p q line
 unfolding ended left stateAfterLines writtenFor answersToLines
-starts p q status line formats stands =
+session-starts p q status line formats stands =
     record {
       status = status;
       formats = formats;

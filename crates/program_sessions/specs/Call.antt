@@ -1,5 +1,4 @@
 -- The call that the lines of a batch make: what it needs, and what the drafts have become then.
--- Assumes nothing.
 use mathlib.Core.Path.{_≡_}
 use mathlib.Core.List.{List, map}
 use Prim.Native.Nat.{ℕ, _*_, _≤_}
@@ -21,7 +20,7 @@ pub record Asks (commands out : List ℕ) (lines : ℕ) : Type 0 where
   pub kept : frameSize * keptIn lines out ≤ length commands
 
 -- the lines of a call have been run and answered, from the state that the pool stood for
-pub record Answers (p q commands out out' : List ℕ) (lines : ℕ) : Type 0 where
+pub record AnswersLines (p q commands out out' : List ℕ) (lines : ℕ) : Type 0 where
   pub long : length out' ≡ length out
   pub samePool : length q ≡ length p
   pub refused : (Sound p → ⊥) → q ≡ p

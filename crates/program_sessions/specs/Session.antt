@@ -1,5 +1,4 @@
 -- A session of the first program, over its whole input: which lines are bad, which frames run, and what is written.
--- Assumes nothing.
 use mathlib.Core.Bool.{false}
 use mathlib.Core.List.{List, [], _∷_, map}
 use Prim.Native.Nat.{ℕ, _-_, _/_}
@@ -11,7 +10,7 @@ use Rattle.text_hex.specs.declared.read.Reading.the-variants.{Frame, Bad}
 use Rattle.text_lines.specs.Lines.{linesOf}
 use Rattle.machine.specs.Machine.{trees}
 use Rattle.protocol.specs.Respond.{Response, respond}
-use Rattle.protocol.specs.State.{State, formatted}
+use Rattle.protocol.specs.State.{State, freshState}
 use Rattle.protocol.specs.declared.Answer.{Answer}
 use Rattle.shape.specs.Nested.{joined}
 use Rattle.shape.specs.Trees.{Tree}
@@ -32,9 +31,9 @@ unfoldable pub stateAfterLines : State Tree → List Reading → State Tree
 stateAfterLines s [] = s
 stateAfterLines s (r ∷ rs) = stateAfterLines (responseTo s r .state) rs
 
--- the state of the program's pool, formatted
+-- the state of the program's pool, freshState
 abbrev pub atStart : State Tree
-atStart = formatted ((programPool - directorySize) / blockSize)
+atStart = freshState ((programPool - directorySize) / blockSize)
 
 -- what is written for lines, from the start
 unfoldable pub writtenFor : List Reading → List ℕ

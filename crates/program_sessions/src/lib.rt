@@ -3,8 +3,8 @@
 ghost use mathlib.Core.Path.{_≡_};
 ghost use Prim.Native.Nat.{_*_};
 ghost use Rattle.text_hex.specs.Lines.{lineSize};
-ghost use Rattle.program_sessions.specs.Call.{Asks, Answers};
-ghost use Rattle.program_sessions.specs.Stream.{Starts, TakesIn, Ends};
+ghost use Rattle.program_sessions.specs.Call.{Asks, AnswersLines};
+ghost use Rattle.program_sessions.specs.Stream.{SessionStarts, SessionTakesIn, SessionEnds};
 use call_run::format;
 use call_run::run;
 use geometry::Record;
@@ -15,7 +15,7 @@ use text_lines::Gathered;
 use text_lines::LINE_FEED;
 
 // What came of a chunk's bytes.
-pub struct Taken {
+pub struct SessionTaken {
     // how many bytes were taken from the chunk's front
     pub taken: usize,
     // how many bytes of answer lines stand at the front of the output
@@ -26,7 +26,7 @@ pub struct Taken {
 
 // Formats the pool. No line has been read.
 pub fn start(pool: &mut [u8]) -> Gathered
-    ensures { λ r. ⌜ Starts (now (pool .entry)) (now (pool .exit)) r ⌝ }
+    ensures { λ r. ⌜ SessionStarts (now (pool .entry)) (now (pool .exit)) r ⌝ }
 {
     format(pool);
     Gathered::start()
@@ -39,25 +39,25 @@ pub fn take_in(
     keep: &mut [u8],
     pool: &mut [u8],
     out: &mut [u8],
-) -> Taken
-    ensures { λ r. ⌜ TakesIn (now (chunk .entry)) before (now (keep .entry)) (now (keep .exit)) (now (pool .entry)) (now (pool .exit)) (now (out .entry)) (now (out .exit)) r ⌝ }
+) -> SessionTaken
+    ensures { λ r. ⌜ SessionTakesIn (now (chunk .entry)) before (now (keep .entry)) (now (keep .exit)) (now (pool .entry)) (now (pool .exit)) (now (out .entry)) (now (out .exit)) r ⌝ }
 {
     let mut commands = [0u8; Record::LONGEST_COMMANDS];
     let batch = read_lines(chunk, before, keep, out, &mut commands);
     let used = Record::FRAME_SIZE * batch.frames;
     let filled = answer(pool, &commands[..used], out, batch.lines);
     let line = batch.line;
-    Taken {
+    SessionTaken {
         taken: batch.taken,
         filled,
         line,
     }
 }
 
-// Runs the commands and puts the answers at the places that were kept for them. Answers how many bytes the lines have.
+// Runs the commands and puts the answers at the places that were kept for them. AnswersLines how many bytes the lines have.
 fn answer(pool: &mut [u8], commands: &[u8], out: &mut [u8], lines: usize) -> usize
     requires { ⌜ Asks (now commands) (now out) lines ⌝ }
-    ensures { λ r. ⌜ (r ≡ lineSize * lines) × Answers (now (pool .entry)) (now (pool .exit)) (now (commands .entry)) (now (out .entry)) (now (out .exit)) lines ⌝ }
+    ensures { λ r. ⌜ (r ≡ lineSize * lines) × AnswersLines (now (pool .entry)) (now (pool .exit)) (now (commands .entry)) (now (out .entry)) (now (out .exit)) lines ⌝ }
 {
     let mut answers = [0u8; Record::LONGEST_COMMANDS];
     run(pool, commands, &mut answers);
@@ -67,7 +67,7 @@ fn answer(pool: &mut [u8], commands: &[u8], out: &mut [u8], lines: usize) -> usi
 
 // The input is over: answers its last line, if that has no line feed but a byte, as if the line feed had come.
 pub fn finish(before: Gathered, keep: &mut [u8], pool: &mut [u8], out: &mut [u8]) -> usize
-    ensures { λ r. ⌜ Ends before (now (keep .entry)) (now (keep .exit)) (now (pool .entry)) (now (pool .exit)) (now (out .entry)) (now (out .exit)) r ⌝ }
+    ensures { λ r. ⌜ SessionEnds before (now (keep .entry)) (now (keep .exit)) (now (pool .entry)) (now (pool .exit)) (now (out .entry)) (now (out .exit)) r ⌝ }
 {
     if before.length == 0 {
         return 0;

@@ -1,5 +1,4 @@
 -- What holds of a command that isn't refused: no row of the table of statuses applies, and each is read at the command's code.
--- Assumes nothing.
 use mathlib.Core.Bool.{true, false, true≢false}
 use mathlib.Core.Logic.{_≢_}
 use mathlib.Core.Path.{_≡_, refl, subst}

@@ -1,6 +1,5 @@
 -- However a name's marks are kept, the index answers and goes on as it does on lists, but for the depth: the tables' columns are the
 -- same for both, the tests look at the marks alone, and a faithful store's edits are those of the list.
--- Assumes nothing.
 use mathlib.Core.List.{List, [], _∷_, map}
 use mathlib.Core.Path.{_≡_, refl, sym, ap, _∙_}
 use Prim.Native.Nat.{ℕ, zero, suc, _+_}

@@ -1,5 +1,4 @@
 -- Frames and their eight bytes: reading gives back what was written and writing what was read, and what the code reads and puts.
--- Assumes nothing.
 use mathlib.Core.Path.{_≡_, refl, sym, ap, _∙_}
 use mathlib.Core.List.{List, [], _∷_}
 use Prim.Native.Nat.{ℕ, zero, suc, _+_, _/_, _%_, _^_, _≤_, _<_}

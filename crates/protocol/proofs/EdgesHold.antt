@@ -1,5 +1,4 @@
 -- The table of edges holds: each history is run and its command answered by computation.
--- Assumes nothing.
 use mathlib.Core.Path.{_≡_, refl}
 use mathlib.Core.List.{map}
 use Rattle.sequence.specs.Definition1.{count, access, rank, select, insert, delete}

@@ -1,6 +1,5 @@
 -- The order of refusals: where the statuses of a list ascend, the first row that applies has the lowest status that applies.
 -- By induction on the list, with the outcome of its first row's test at hand.
--- Assumes nothing.
 use mathlib.Core.Bool.{Bool, true, false, cond, true≢false}
 use mathlib.Core.List.{List, [], _∷_, _++_}
 use mathlib.Core.Logic.{_≢_, inl, inr, ⊎-elim}

@@ -1,6 +1,5 @@
 -- What every answer and every state after a command has: a refused command and a query leave the state, and no command touches another
 -- name's part.
--- Assumes nothing.
 use mathlib.Core.List.{List, [], _∷_, _++_}
 use mathlib.Core.Logic.{_≢_}
 use mathlib.Core.Path.{_≡_, refl, ap, _∙_}

@@ -1,12 +1,11 @@
 -- What holds of each row of the table of commands holds of the row of a command.
--- Assumes nothing.
 use mathlib.Core.Bool.{Bool, true, false, cond}
 use mathlib.Core.List.{List, [], _∷_, map}
 use mathlib.Core.Path.{_≡_, refl, sym, subst}
 use Prim.Native.Nat.{ℕ}
 use borrow.Author.Tests.{eqb-true}
 use lib.Dec.{eqb}
-use Rattle.protocol.specs.Commands.{Row, row, rowOf, answers}
+use Rattle.protocol.specs.Commands.{Row, row, rowOf, tells}
 use Rattle.protocol.specs.declared.Command.{Command}
 
 -- the command with another code
@@ -29,7 +28,7 @@ module _ {A : Type 0} (P : ℕ → Row A → Type 0) where
 
 -- a row without its effect, for tables that differ in nothing else
 abbrev pub columnsOf : {A : Type 0} → Row A → Row (Unit {0})
-columnsOf r = row (r .code) (r .usesSymbol) (r .usesNumber) (r .inRange) (λ free part c. answers 0 part)
+columnsOf r = row (r .code) (r .usesSymbol) (r .usesNumber) (r .inRange) (λ free part c. tells 0 part)
 
 pub columns-of-row : {A : Type 0} (code : ℕ) (rs : List (Row A)) → columnsOf (rowOf code rs) ≡ rowOf code (map columnsOf rs)
 columns-of-row code [] = refl

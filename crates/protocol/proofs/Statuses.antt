@@ -1,5 +1,4 @@
 -- The table of statuses: its numbers ascend, so the first that applies is the lowest; and when a row's status is given.
--- Assumes nothing.
 use mathlib.Core.Bool.{true, false, _&&_}
 use mathlib.Core.List.{List, [], _∷_, _++_, map}
 use mathlib.Core.Logic.{_↔_}

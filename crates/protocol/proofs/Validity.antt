@@ -1,6 +1,5 @@
 -- A valid state stays valid: an accepted command leaves its name's part valid and promises no more than the unpromised shares, a
 -- refused one leaves the part. Of the other parts nothing changes.
--- Assumes nothing.
 use mathlib.Core.Bool.{false≢true}
 use mathlib.Core.List.{List, [], _∷_}
 use mathlib.Core.Path.{_≡_, refl, _∙_}
@@ -11,7 +10,7 @@ use Rattle.geometry.specs.Limits.{names, marksPerShare}
 use Rattle.protocol.specs.Commands.{edited, rows, rowFor}
 use Rattle.protocol.specs.Refusals.{statusOf}
 use Rattle.protocol.specs.Respond.{replyOf, reply, respond, stateAfter}
-use Rattle.protocol.specs.State.{Store, Part, State, closed, opened, formatted, sharesOf, marksOf, partOf, promised, unpromised, lists}
+use Rattle.protocol.specs.State.{Store, Part, State, closed, opened, freshState, sharesOf, marksOf, partOf, promised, unpromised, lists}
 use Rattle.protocol.specs.Valid.{ValidOpen, ValidPart, Valid, Faithful}
 use Rattle.protocol.specs.declared.Command.{Command}
 use Rattle.protocol.proofs.Accepted.{OpenAccepted, InsertAccepted, PlaceAccepted, open-accepted, insert-accepted, delete-accepted}
@@ -168,7 +167,7 @@ module _ {A : Type 0} (store : Store A) (faithful : Faithful store) where
   commands-keep-valid s [] valid = valid
   commands-keep-valid s (c ∷ cs) valid = commands-keep-valid (respond store s c .state) cs (respond-keeps-valid s c valid)
 
--- a formatted pool is valid
-pub formatted-is-valid : {A : Type 0} (store : Store A) (shares : ℕ) → Valid store (formatted shares)
+-- a freshState pool is valid
+pub formatted-is-valid : {A : Type 0} (store : Store A) (shares : ℕ) → Valid store (freshState shares)
 formatted-is-valid store shares =
     record { all = refl; parts = λ name. rw (formatted-is-closed names name) tt; within = omega arith }

@@ -1,5 +1,4 @@
 -- The edges of document 01 that are facts about the definitions: what is answered to a command after a history on a fresh pool.
--- Assumes nothing.
 use mathlib.Core.List.{List, [], _∷_, _++_}
 use Prim.Native.Nat.{ℕ}
 use lib.ListN.{replicate}
@@ -14,7 +13,7 @@ use Rattle.protocol.specs.Commands.{
   unpromisedCode,
 }
 use Rattle.protocol.specs.Respond.{respond, stateAfter}
-use Rattle.protocol.specs.State.{formatted, lists}
+use Rattle.protocol.specs.State.{freshState, lists}
 use Rattle.protocol.specs.declared.Answer.{Answer}
 use Rattle.protocol.specs.declared.Command.{Command}
 
@@ -31,7 +30,7 @@ edge shares history command expected = record { shares = shares; history = histo
 
 -- the answer that the definitions give
 unfoldable pub answered : Edge → Answer
-answered e = respond lists (stateAfter lists (formatted (e .shares)) (e .history)) (e .command) .answer
+answered e = respond lists (stateAfter lists (freshState (e .shares)) (e .history)) (e .command) .answer
 
 -- a command with a zero fourth byte: code, name, symbol, number
 abbrev pub command : ℕ → ℕ → ℕ → ℕ → Command

@@ -1,5 +1,4 @@
 -- Frames as records and as eight bytes. A number's four bytes stand high byte first.
--- Assumes nothing.
 use mathlib.Core.List.{List, [], _∷_}
 use Prim.Native.Nat.{ℕ, _+_, _*_, _/_, _%_, _^_, _<_}
 use lib.ListN.{getD}

@@ -1,5 +1,4 @@
 -- The table of statuses of a frame, row by row as in document 01. The order of the rows decides.
--- Assumes nothing.
 use mathlib.Core.Bool.{Bool, true, false, cond, not, _&&_, _||_}
 use mathlib.Core.List.{List, [], _∷_, map}
 use mathlib.Core.Logic.{_⊎_, _≢_}
@@ -24,7 +23,7 @@ use Rattle.protocol.specs.Commands.{
 }
 use Rattle.protocol.specs.declared.Command.{Command}
 
--- a row of the table: the status, the codes of the commands that are tested, and when it applies, by the unpromised shares, the name's
+-- a row of the table: the status, the codesBetween of the commands that are tested, and when it applies, by the unpromised shares, the name's
 -- part and the command
 pub record Refusal (A : Type 0) : Type 0 where
   pub status : ℕ
@@ -36,8 +35,8 @@ abbrev pub all : ℕ → Bool
 all code = true
 
 -- the commands from one code to another
-abbrev pub codes : ℕ → ℕ → ℕ → Bool
-codes first last code = leb first code && leb code last
+abbrev pub codesBetween : ℕ → ℕ → ℕ → Bool
+codesBetween first last code = leb first code && leb code last
 
 -- one command
 abbrev pub only : ℕ → ℕ → Bool
@@ -110,11 +109,11 @@ module _ {A : Type 0} (store : Store A) where
       ∷ refusal 2 listed (λ free part c. not (isNameAllowed c))
       ∷ refusal 3 listed (λ free part c. not (isUnusedZero c))
       ∷ refusal 4 (only openCode) (λ free part c. isOpen part)
-      ∷ refusal 5 (codes closeCode lengthCode) (λ free part c. not (isOpen part))
+      ∷ refusal 5 (codesBetween closeCode lengthCode) (λ free part c. not (isOpen part))
       ∷ refusal 6 (only openCode) (λ free part c. not (leb leastAlphabet (c .symbol) && leb (c .symbol) mostAlphabet))
       ∷ refusal 7 (only openCode) (λ free part c. eqb (c .number) 0)
       ∷ refusal 8 (oneOf insertCode rankCode selectCode) (λ free part c. leb (alphabetOf part) (c .symbol))
-      ∷ refusal 9 (codes insertCode rankCode) (λ free part c. not (isInRange part c))
+      ∷ refusal 9 (codesBetween insertCode rankCode) (λ free part c. not (isInRange part c))
       ∷ refusal 10 (only selectCode) (λ free part c. eqb (c .number) 0 || ltb (count (c .symbol) (marksOf store part)) (c .number))
       ∷ refusal 11 (only insertCode) (λ free part c. eqb (length (marksOf store part)) (marksPerShare * sharesOf part))
       ∷ refusal 12 (only openCode) (λ free part c. ltb free (c .number))

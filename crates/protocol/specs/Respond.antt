@@ -1,5 +1,4 @@
 -- The index as a machine: what it answers to a command, and what it then holds.
--- Assumes nothing.
 use mathlib.Core.List.{List, [], _∷_}
 use Prim.Native.Nat.{ℕ, zero, suc}
 use lib.ListN.{set}

@@ -1,5 +1,4 @@
 -- What the index holds: for each of sixteen names nothing, or an alphabet size, the shares promised and the marks.
--- Assumes nothing.
 use mathlib.Core.Bool.{Bool, true, false}
 use mathlib.Core.List.{List, [], _∷_, map}
 use Prim.Native.Nat.{ℕ, _+_, _-_}
@@ -36,9 +35,9 @@ pub record State (A : Type 0) : Type 0 where
   pub shares : ℕ
   pub parts : List (Part A)
 
--- a freshly formatted pool of so many shares: every name closed
-abbrev pub formatted : {A : Type 0} → ℕ → State A
-formatted shares = record { shares = shares; parts = replicate names closed }
+-- a freshly freshState pool of so many shares: every name closed
+abbrev pub freshState : {A : Type 0} → ℕ → State A
+freshState shares = record { shares = shares; parts = replicate names closed }
 
 module _ {A : Type 0} where
   -- the part of a name; a name that there isn't counts as closed

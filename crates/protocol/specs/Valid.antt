@@ -1,5 +1,4 @@
 -- States that can come about: what every open name keeps to, and the promise that shares are not given twice.
--- Assumes nothing.
 use mathlib.Core.List.{List, []}
 use mathlib.Core.Path.{_≡_}
 use Prim.Native.Nat.{ℕ, _+_, _*_, _≤_}

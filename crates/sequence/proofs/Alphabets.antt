@@ -1,5 +1,4 @@
 -- Marks below σ, and sums over the σ symbols: the counts of all symbols add up to the length, and their ranks to the place.
--- Assumes nothing.
 use mathlib.Core.Path.{_≡_, refl, _∙_}
 use mathlib.Core.List.{List, [], _∷_}
 use mathlib.Core.Logic.{_⊎_, inl, inr, ⊎-elim}

@@ -1,5 +1,4 @@
 -- One mark compared with a symbol, and the count of a symbol.
--- Assumes nothing.
 use mathlib.Core.Path.{_≡_, refl, ap}
 use mathlib.Core.Bool.{Bool, true, false, cond}
 use mathlib.Core.List.{List, [], _∷_}

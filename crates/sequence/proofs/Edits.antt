@@ -1,5 +1,4 @@
 -- The list after an insert or a delete, asked on both sides of the place. A delete's laws are those of the insert that undoes it.
--- Assumes nothing.
 use mathlib.Core.Path.{_≡_, refl, sym, ap, _∙_}
 use mathlib.Core.List.{List, _∷_, _++_}
 use Prim.Native.Nat.{ℕ, suc, _+_, _-_, _≤_, _<_}

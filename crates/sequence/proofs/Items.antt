@@ -1,5 +1,4 @@
 -- Facts over all items, where a list is put together or cut.
--- Assumes nothing.
 use mathlib.Core.List.{List, [], _∷_, _++_}
 use Prim.Native.Nat.{ℕ}
 use lib.ListN.{take, drop, take-append-drop}

@@ -1,5 +1,4 @@
 -- Measures of lists that add up over a seam: how many marks, how many c. What holds of both is stated once, over any such measure.
--- Assumes nothing.
 use mathlib.Core.Path.{_≡_, sym, ap, _∙_}
 use mathlib.Core.List.{List, [], _∷_, _++_}
 use Prim.Native.Nat.{ℕ, suc, _+_, _-_, _≤_, _<_}

@@ -1,5 +1,4 @@
 -- Rank by itself: at both ends, from one place to the next, and over a stretch.
--- Assumes nothing.
 use mathlib.Core.Path.{_≡_, refl, ap}
 use mathlib.Core.List.{List}
 use Prim.Native.Nat.{ℕ, suc, _+_, _-_, _≤_, _<_}

@@ -1,5 +1,4 @@
 -- The operations across a seam `xs ++ ys`: those of xs on the left; on the right those of ys, less the marks of xs, or less its c.
--- Assumes nothing.
 use mathlib.Core.Path.{_≡_, refl, ap, _∙_}
 use mathlib.Core.List.{List, [], _∷_, _++_, append-assoc}
 use Prim.Native.Nat.{ℕ, zero, suc, _+_, _-_, _≤_, _<_}

@@ -1,5 +1,4 @@
 -- Marks of an alphabet of σ symbols, 0 to σ - 1, and sums over all its symbols.
--- Assumes nothing.
 use mathlib.Core.List.{List}
 use Prim.Native.Nat.{ℕ, zero, suc, _+_, _<_}
 use Rattle.sequence.specs.Items.{All}

@@ -1,5 +1,4 @@
 -- What holds of every item of a list.
--- Assumes nothing.
 use mathlib.Core.List.{List, [], _∷_}
 
 -- P holds of each

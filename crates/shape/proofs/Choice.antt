@@ -1,5 +1,4 @@
 -- What a test picks: a fact about the picked value is shown on both sides of the test. Go by the test's two outcomes.
--- Assumes nothing.
 use mathlib.Core.Path.{_≡_, refl}
 use mathlib.Core.Bool.{Bool, true, false, not, cond}
 use Prim.Native.Nat.{ℕ, _≤_, _<_}

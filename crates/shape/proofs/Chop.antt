@@ -1,5 +1,4 @@
 -- A node chopped into one or two. Both sides of the test are looked at; halves joined again are the whole.
--- Assumes nothing.
 use mathlib.Core.Path.{_≡_, sym, ap, _∙_}
 use mathlib.Core.List.{List, [], _∷_, _++_, append-nil}
 use Prim.Native.Nat.{ℕ, _≤_, _<_}

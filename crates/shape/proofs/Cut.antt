@@ -1,5 +1,4 @@
 -- A full leaf split by an insert, as code does it in place: cut first, then insert into the half that takes the place.
--- Assumes nothing.
 use mathlib.Core.Path.{_≡_, ap, ap₂, _∙_}
 use mathlib.Core.List.{List, [], _∷_}
 use Prim.Native.Nat.{ℕ, zero, _+_, _-_, _≤_, _<_}

@@ -1,5 +1,4 @@
 -- The definitions compute: a leaf that is full splits at the next insert, and a delete brings the one leaf back.
--- Assumes nothing.
 use mathlib.Core.Path.{_≡_, refl}
 use Prim.Native.Nat.{ℕ, zero, suc, _+_}
 use Rattle.geometry.specs.Layout.{mostLeaf}

@@ -1,5 +1,4 @@
 -- Inserts and deletes keep nodes filled: two halves are just large enough, and a short child and its neighbour fill one node or two.
--- Assumes nothing.
 use mathlib.Core.Path.{_≡_}
 use mathlib.Core.List.{List, [], _∷_, _++_}
 use Prim.Native.Nat.{ℕ, zero, suc, _+_, _-_, _*_, _≤_, _<_}

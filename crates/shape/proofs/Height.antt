@@ -1,5 +1,4 @@
 -- How high a tree is: each level at least doubles the marks. The depth of a place is the height and one, so the depth rule follows.
--- Assumes nothing.
 use mathlib.Core.Path.{_≡_, refl, ap}
 use mathlib.Core.List.{List}
 use mathlib.Core.Logic.{⊎-elim}

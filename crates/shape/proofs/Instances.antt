@@ -1,5 +1,4 @@
 -- The theory at the sizes that stand: each is proper, by computation, and the laws need no other proof.
--- Assumes nothing.
 use mathlib.Core.Path.{_≡_, refl}
 use Prim.Native.Nat.{ℕ, _-_, _*_, _/_, _^_, _≤_, _<_, max}
 use native.Mathlib.Omega.{arith}

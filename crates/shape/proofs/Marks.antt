@@ -1,5 +1,4 @@
 -- The marks after an insert or a delete are the list's insert or delete, whatever the place: one level for any local edit, then by induction.
--- Assumes nothing.
 use mathlib.Core.Path.{_≡_, refl, sym, ap, ap₂, _∙_}
 use mathlib.Core.List.{List, [], _∷_, _++_, append-nil}
 use Prim.Native.Nat.{ℕ, zero, suc, _+_, _-_, _≤_, _<_}

@@ -1,5 +1,4 @@
 -- A short child mended with its neighbour, the second if it is the first child, else the one before it. Go down the list by twos.
--- Assumes nothing.
 use mathlib.Core.Path.{_≡_, refl, ap, _∙_}
 use mathlib.Core.List.{List, [], _∷_, _++_, append-assoc}
 use Prim.Native.Nat.{ℕ, _≤_, _<_}

@@ -1,5 +1,4 @@
 -- How many blocks a tree has: a filled node has marks for one share more than it has blocks.
--- Assumes nothing.
 use Prim.Native.Nat.{ℕ, zero, suc, _-_, _*_, _≤_}
 use native.Mathlib.Nat.{mul-le-mul-left, le-of-mul-le-mul-left, le-trans}
 use native.Mathlib.Omega.{arith}

@@ -1,5 +1,4 @@
 -- Which child takes a place. The definition is followed item by item: i stops at the first, or goes on less what the first counts.
--- Assumes nothing.
 use mathlib.Core.Path.{_≡_, refl, ap, _∙_}
 use mathlib.Core.List.{List, [], _∷_, _++_}
 use mathlib.Core.Logic.{⊎-elim}

@@ -1,5 +1,4 @@
 -- One step down, as code makes it: at the children before, the child that takes the place and the children after.
--- Assumes nothing.
 use mathlib.Core.Path.{_≡_, sym, ap, ap₂, _∙_}
 use mathlib.Core.Bool.{cond, _&&_}
 use mathlib.Core.List.{List, [], _∷_, _++_}

@@ -1,5 +1,4 @@
 -- The blocks of a tree, one for each node, and those that an insert adds.
--- Assumes nothing.
 use mathlib.Core.Bool.{Bool, cond, _&&_}
 use Prim.Native.Nat.{ℕ, zero, suc, _+_}
 use lib.Dec.{leb}

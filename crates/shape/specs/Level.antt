@@ -1,5 +1,4 @@
 -- One level of a tree: splitting a node, mending a short child, and which child takes a place.
--- Assumes nothing.
 use mathlib.Core.Bool.{cond}
 use mathlib.Core.List.{List, [], _∷_, _++_}
 use Prim.Native.Nat.{ℕ, suc, _+_, _-_, _/_, _≤_, _<_, min}

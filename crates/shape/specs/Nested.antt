@@ -1,5 +1,4 @@
 -- Nested lists of one depth, which is all that a tree is: a node is a list, and all leaves stand at level 0.
--- Assumes nothing.
 use mathlib.Core.List.{List, [], _∷_, _++_}
 use Prim.Native.Nat.{ℕ, zero, suc, _+_}
 use lib.ListN.{length}

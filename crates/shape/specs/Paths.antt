@@ -1,5 +1,4 @@
 -- The way down to a place, or to what any other measure counts.
--- Assumes nothing.
 use mathlib.Core.Path.{_≡_}
 use mathlib.Core.List.{List, [], _∷_, _++_}
 use Prim.Native.Nat.{ℕ, zero, suc, _+_, _-_, _≤_}

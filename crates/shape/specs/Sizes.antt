@@ -1,5 +1,4 @@
 -- How many entries nodes have, and the two sets of sizes that stand so far.
--- Assumes nothing.
 use mathlib.Core.Path.{_≡_}
 use Prim.Native.Nat.{ℕ, zero, suc, _+_, _-_, _*_, _≤_}
 use Rattle.geometry.specs.Layout.{leastLeaf, mostLeaf, leastBranch, mostBranch}

@@ -1,5 +1,4 @@
 -- Insert and delete, at a level and at the root.
--- Assumes nothing.
 use mathlib.Core.List.{List, [], _∷_}
 use Prim.Native.Nat.{ℕ, zero, suc}
 use Rattle.sequence.specs.Definition1.{insert, delete}

@@ -1,5 +1,4 @@
 -- The columns past the last one that is read make no difference to the mark.
--- Assumes nothing.
 use mathlib.Core.Path.{_≡_, ap}
 use mathlib.Core.List.{List}
 use Prim.Native.Nat.{ℕ, _≤_}

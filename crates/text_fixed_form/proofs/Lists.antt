@@ -1,5 +1,4 @@
 -- Facts on lists in the form that the code has them: at `i + 1`, and with 0 as the default.
--- Assumes nothing.
 use mathlib.Core.Path.{_≡_, refl}
 use mathlib.Core.List.{List, [], _∷_}
 use Prim.Native.Nat.{ℕ, zero, suc, _+_, _<_}

@@ -1,5 +1,4 @@
 -- One step of a pass over the columns of a line, for the tests that look at every column.
--- Assumes nothing.
 use mathlib.Core.Bool.{Bool, true, false, _||_, or-true, or-false}
 use mathlib.Core.Path.{_≡_}
 use mathlib.Core.List.{List}

@@ -1,5 +1,4 @@
 -- Which rule gives a card its mark: the first whose test holds, after those whose tests don't.
--- Assumes nothing.
 use mathlib.Core.Bool.{Bool, true, false}
 use mathlib.Core.Path.{_≡_, sym, _∙_}
 use mathlib.Core.List.{List}
@@ -9,8 +8,8 @@ use Rattle.geometry.specs.Limits.{continuationColumn}
 use Rattle.text_fixed_form.specs.Mark.{outside, comment, continuation, storageShared, common, other, anyOutside, isComment, isContinuation, begins, equivalenceWord, commonWord, text, firstThatFits, rules}
 
 -- a test is what the answer was to it
-pub answered : {answer test known : Bool} → answer ≡ test → answer ≡ known → test ≡ known
-answered e f = sym e ∙ f
+pub test-known : {answer test known : Bool} → answer ≡ test → answer ≡ known → test ≡ known
+test-known e f = sym e ∙ f
 
 module _ (columns : List ℕ) where
   -- a byte that no line may have

@@ -1,5 +1,4 @@
 -- One step of the comparison of a word with the text of a line's columns: k letters of the word have been met, and i columns passed.
--- Assumes nothing.
 use mathlib.Core.Bool.{true, false}
 use mathlib.Core.Path.{_≡_, refl, sym, _∙_}
 use mathlib.Core.List.{List, [], _∷_}

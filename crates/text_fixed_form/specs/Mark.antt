@@ -1,5 +1,4 @@
 -- The mark of a fixed-form line of Fortran, by document 01's rules. A line is a list of bytes; columns count from 1.
--- Assumes nothing.
 use mathlib.Core.Bool.{Bool, true, false, cond, not, _&&_, _||_}
 use mathlib.Core.List.{List, [], _∷_, map}
 use Prim.Native.Nat.{ℕ, _+_, _-_}

@@ -1,6 +1,5 @@
 -- What a line holds, test by test, and that reading a written line gives its numbers back: each field's digits are a part of the
 -- line, and a number is read back from its digits.
--- Assumes nothing.
 use mathlib.Core.Path.{_≡_, refl, sym, ap, _∙_}
 use mathlib.Core.Bool.{true, false}
 use mathlib.Core.List.{List, [], _∷_, _++_}
@@ -10,7 +9,7 @@ use borrow.Author.Tests.{eq-eqb, ne-eqb}
 use lib.Dec.{ltb}
 use lib.ListN.{length, take, drop}
 use lib.Seq.{take-at, drop-at, take-all, drop-drop}
-use Rattle.text_hex.specs.Digits.{valueOf, allDigits, numberOf, digitsOf}
+use Rattle.text_hex.specs.Digits.{valueOf, allDigits, numberOfDigits, digitsOf}
 use Rattle.text_hex.specs.Lines.{lineDigits, spelled, frameOf, numbersOf, digitsOfFrame}
 use Rattle.text_hex.specs.declared.read.Reading.the-variants.{Frame, Bad}
 use Rattle.text_hex.proofs.Written.{length-of-frame}
@@ -45,7 +44,7 @@ unfolding frameOf
 frame-of-digits line long digits = rw (eq-eqb (length line) lineDigits long, digits)
 
 -- digits in front of others are read back, and the others stand behind them
-read-in-front : (many number : ℕ) (rest : List ℕ) → number < 16 ^ many → numberOf (take many (digitsOf many number ++ rest)) ≡ number
+read-in-front : (many number : ℕ) (rest : List ℕ) → number < 16 ^ many → numberOfDigits (take many (digitsOf many number ++ rest)) ≡ number
 read-in-front many number rest below = rw (take-at (digitsOf many number) rest many (length-of-digits many number)) (number-of-digits many number below)
 
 drop-in-front : (many number : ℕ) (rest : List ℕ) → drop many (digitsOf many number ++ rest) ≡ rest

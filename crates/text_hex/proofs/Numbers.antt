@@ -1,6 +1,5 @@
 -- Numbers and their digits: one law for every number of digits. A number is read back from its digits by induction on how many
 -- there are, the last one first; what fits goes by the powers of sixteen.
--- Assumes nothing.
 use mathlib.Core.Path.{_≡_, refl, ap, sym, _∙_}
 use mathlib.Core.Bool.{Bool, true, false, _&&_, and-assoc}
 use mathlib.Core.List.{List, [], _∷_, _++_, append-nil, append-assoc}
@@ -12,7 +11,7 @@ use lib.Dec.{ltb}
 use lib.ListN.{length, getD, drop, length-append}
 use lib.Seq.{drop-cons}
 use borrow.Author.Tests.{lt-ltb, ltb-true}
-use Rattle.text_hex.specs.Digits.{valueOf, digitOf, digitsOf, allDigits, numberAfter, numberOf}
+use Rattle.text_hex.specs.Digits.{valueOf, digitOf, digitsOf, allDigits, numberAfter, numberOfDigits}
 use Rattle.text_hex.proofs.Rules.{values-at}
 
 -- a digit's value is the value that it was written for
@@ -56,7 +55,7 @@ number-after-fits above (byte ∷ bytes) digits =
     omega (arith, mul-assoc (above + 1) 16 (16 ^ length bytes), ap (λ p. (above + 1) * p) (pow-succ' 16 (length bytes)))
 
 -- so many digits stand for a number below that power of sixteen
-pub number-fits : (bytes : List ℕ) (most : ℕ) → length bytes ≤ most → allDigits bytes ≡ true → numberOf bytes < 16 ^ most
+pub number-fits : (bytes : List ℕ) (most : ℕ) → length bytes ≤ most → allDigits bytes ≡ true → numberOfDigits bytes < 16 ^ most
 number-fits bytes most few digits =
     omega (arith, number-after-fits 0 bytes digits, pow-le-pow-right {n = 16} (omega arith) few)
 
@@ -71,11 +70,11 @@ number-after-append above [] ys = refl
 number-after-append above (x ∷ xs) ys = number-after-append (above * 16 + valueOf x) xs ys
 
 -- reading the digits that were written gives the number back
-pub number-of-digits : (many number : ℕ) → number < 16 ^ many → numberOf (digitsOf many number) ≡ number
+pub number-of-digits : (many number : ℕ) → number < 16 ^ many → numberOfDigits (digitsOf many number) ≡ number
 unfolding digitsOf
 number-of-digits zero number below = omega arith
 number-of-digits (suc many) number below =
-    let above : numberOf (digitsOf many (number / 16)) ≡ number / 16 =
+    let above : numberOfDigits (digitsOf many (number / 16)) ≡ number / 16 =
     number-of-digits many (number / 16) (omega (arith, pow-succ' 16 many))
     in
     number-after-append 0 (digitsOf many (number / 16)) (digitOf (number % 16) ∷ []) ∙

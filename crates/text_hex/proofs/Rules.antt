@@ -1,6 +1,5 @@
 -- A table's rule, proved at all of its entries at once: the table is computed to be the list of the rule's values, and this
 -- law gives the rule at each entry. By induction on the number of entries.
--- Assumes nothing.
 use mathlib.Core.Path.{_≡_, ap, _∙_, sym}
 use mathlib.Core.List.{List, [], _∷_}
 use Prim.Native.Nat.{ℕ, zero, suc, _+_, _<_}

@@ -1,5 +1,4 @@
 -- What the two loops that read know at each turn: the bytes from i on decide the whole, and the number so far fits.
--- Assumes nothing.
 use mathlib.Core.Path.{_≡_, sym, _∙_}
 use mathlib.Core.Bool.{true, false}
 use mathlib.Core.List.{List}
@@ -7,7 +6,7 @@ use Prim.Native.Nat.{ℕ, _+_, _*_, _^_, _≤_, _<_}
 use native.Mathlib.Omega.{arith}
 use borrow.Author.Tests.{lt-ltb, le-ltb}
 use lib.ListN.{length, getD, drop, drop-of-length-le}
-use Rattle.text_hex.specs.Digits.{valueOf, allDigits, numberAfter, numberOf}
+use Rattle.text_hex.specs.Digits.{valueOf, allDigits, numberAfter, numberOfDigits}
 use Rattle.text_hex.proofs.Numbers.{all-digits-from, number-from, number-grows, number-fits}
 
 module _ (bytes : List ℕ) (i : ℕ) where
@@ -28,12 +27,12 @@ module _ (bytes : List ℕ) (i : ℕ) where
   digits-to-the-end so-far end = rw (drop-of-length-le bytes end) at so-far
 
   -- the next digit keeps the whole number
-  pub number-at : (number value : ℕ) → numberAfter number (drop i bytes) ≡ numberOf bytes → i < length bytes → value ≡ valueOf (getD bytes i 0)
-      → numberAfter (number * 16 + value) (drop (i + 1) bytes) ≡ numberOf bytes
+  pub number-at : (number value : ℕ) → numberAfter number (drop i bytes) ≡ numberOfDigits bytes → i < length bytes → value ≡ valueOf (getD bytes i 0)
+      → numberAfter (number * 16 + value) (drop (i + 1) bytes) ≡ numberOfDigits bytes
   number-at number value so-far below is = rw is (sym (number-from number bytes i below) ∙ so-far)
 
   -- and the number with it is at most the whole one, which fits
-  pub number-so-far-fits : (number value : ℕ) → numberAfter number (drop i bytes) ≡ numberOf bytes → i < length bytes → value ≡ valueOf (getD bytes i 0)
+  pub number-so-far-fits : (number value : ℕ) → numberAfter number (drop i bytes) ≡ numberOfDigits bytes → i < length bytes → value ≡ valueOf (getD bytes i 0)
       → length bytes ≤ 8 → allDigits bytes ≡ true → number * 16 + value < 2 ^ 32
   number-so-far-fits number value so-far below is few digits =
       omega (
@@ -43,5 +42,5 @@ module _ (bytes : List ℕ) (i : ℕ) where
         number-fits bytes 8 few digits,
       )
 
-  pub number-to-the-end : (number : ℕ) → numberAfter number (drop i bytes) ≡ numberOf bytes → length bytes ≤ i → number ≡ numberOf bytes
+  pub number-to-the-end : (number : ℕ) → numberAfter number (drop i bytes) ≡ numberOfDigits bytes → length bytes ≤ i → number ≡ numberOfDigits bytes
   number-to-the-end number so-far end = rw (drop-of-length-le bytes end) at so-far

@@ -1,6 +1,5 @@
 -- What the writer leaves in the buffer. Its loop puts the last digit first: the digits still to come, and the buffer from there on,
 -- are always the whole number's digits and the buffer behind them.
--- Assumes nothing.
 use mathlib.Core.Path.{_≡_, refl, sym, ap, ap₂, _∙_}
 use mathlib.Core.List.{List, [], _∷_, _++_, append-assoc}
 use Prim.Native.Nat.{ℕ, zero, suc, _+_, _-_, _*_, _/_, _%_, _^_, _≤_, _<_}

@@ -1,5 +1,4 @@
 -- Hexadecimal digits, and the numbers that they stand for.
--- Assumes nothing.
 use mathlib.Core.Bool.{Bool, true, cond, _&&_}
 use mathlib.Core.List.{List, [], _∷_, _++_}
 use Prim.Native.Nat.{ℕ, zero, suc, _+_, _-_, _*_, _/_, _%_}
@@ -35,8 +34,8 @@ numberAfter above [] = above
 numberAfter above (byte ∷ bytes) = numberAfter (above * 16 + valueOf byte) bytes
 
 -- the number that digits stand for, the highest first
-abbrev pub numberOf : List ℕ → ℕ
-numberOf bytes = numberAfter 0 bytes
+abbrev pub numberOfDigits : List ℕ → ℕ
+numberOfDigits bytes = numberAfter 0 bytes
 
 -- the last so many digits of a number, the highest first
 unfoldable pub digitsOf : ℕ → ℕ → List ℕ

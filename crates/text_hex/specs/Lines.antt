@@ -1,12 +1,11 @@
 -- Frames and answers as lines of hexadecimal digits.
--- Assumes nothing.
 use mathlib.Core.Bool.{Bool, cond, _&&_}
 use mathlib.Core.List.{List, [], _∷_, _++_}
 use Prim.Native.Nat.{ℕ, _+_, _*_}
 use lib.Dec.{eqb}
 use lib.ListN.{length, take, drop}
 use Rattle.geometry.specs.Limits.{frameSize}
-use Rattle.text_hex.specs.Digits.{allDigits, numberOf, digitsOf}
+use Rattle.text_hex.specs.Digits.{allDigits, numberOfDigits, digitsOf}
 use Rattle.text_hex.specs.declared.read.Reading.{Reading}
 use Rattle.text_hex.specs.declared.read.Reading.the-variants.{Frame, Bad}
 
@@ -21,8 +20,8 @@ isFrame line = eqb (length line) lineDigits && allDigits line
 -- the frame that sixteen digits spell: code, name, symbol and fourth byte of two digits each, then the number
 unfoldable pub spelled : List ℕ → Reading
 spelled line =
-    Frame (numberOf (take 2 line)) (numberOf (take 2 (drop 2 line))) (numberOf (take 2 (drop 4 line))) (numberOf (take 2 (drop 6 line)))
-    (numberOf (take 8 (drop 8 line)))
+    Frame (numberOfDigits (take 2 line)) (numberOfDigits (take 2 (drop 2 line))) (numberOfDigits (take 2 (drop 4 line))) (numberOfDigits (take 2 (drop 6 line)))
+    (numberOfDigits (take 8 (drop 8 line)))
 
 -- what a line holds: a frame exactly if it is sixteen hexadecimal digits
 unfoldable pub frameOf : List ℕ → Reading

@@ -3,7 +3,7 @@ ghost use mathlib.Core.Path.{_≡_};
 ghost use mathlib.Core.Bool.{true};
 ghost use Prim.Native.Nat.{_+_, _≤_};
 ghost use lib.ListN.{length, take, drop};
-ghost use Rattle.text_hex.specs.Digits.{allDigits, numberOf};
+ghost use Rattle.text_hex.specs.Digits.{allDigits, numberOfDigits};
 ghost use Rattle.text_hex.specs.Lines.{frameOf};
 use crate::digit::value;
 use crate::write::LINE_DIGITS;
@@ -54,7 +54,7 @@ fn are_digits(line: &[u8]) -> bool
 // The byte that the two digits at `at` stand for.
 fn byte_at(line: &[u8], at: usize) -> u8
     requires { ⌜ (at + 2 ≤ length (now line)) × (allDigits (now line) ≡ true) ⌝ }
-    ensures { λ r. ⌜ r ≡ numberOf (take 2 (drop at (now (line .entry)))) ⌝ }
+    ensures { λ r. ⌜ r ≡ numberOfDigits (take 2 (drop at (now (line .entry)))) ⌝ }
 {
     number(&line[at..at + 2]) as u8
 }
@@ -62,7 +62,7 @@ fn byte_at(line: &[u8], at: usize) -> u8
 // The number that up to eight digits stand for.
 fn number(digits: &[u8]) -> u32
     requires { ⌜ (length (now digits) ≤ 8) × (allDigits (now digits) ≡ true) ⌝ }
-    ensures { λ r. ⌜ r ≡ numberOf (now (digits .entry)) ⌝ }
+    ensures { λ r. ⌜ r ≡ numberOfDigits (now (digits .entry)) ⌝ }
 {
     let mut number: u32 = 0;
     let mut i = 0;

@@ -1,5 +1,4 @@
 -- Any way of cutting an input into chunks gives the same lines; and what is left of a chunk behind a place.
--- Assumes nothing.
 use mathlib.Core.Bool.{Bool}
 use mathlib.Core.Path.{_≡_, refl, ap, sym, _∙_}
 use mathlib.Core.List.{List, [], _∷_, _++_, append-assoc}
@@ -7,20 +6,20 @@ use Prim.Native.Nat.{ℕ, _-_}
 use native.Mathlib.Omega.{arith}
 use lib.ListN.{length, take, drop, length-drop}
 use lib.Seq.{take-all}
-use Rattle.text_lines.specs.Lines.{ended, left, lastLine, linesOf, joined, linesOfChunks}
+use Rattle.text_lines.specs.Lines.{ended, left, lastLine, linesOf, joinedChunks, linesOfChunks}
 use Rattle.text_lines.proofs.Cut.{ended-append, left-append}
 
 -- chunks that come after some bytes of a line
 pub chunks-after : (r : Bool) (g : List ℕ) (chunks : List (List ℕ)) →
-    linesOfChunks r g chunks ≡ ended r g (joined chunks) ++ lastLine (left g (joined chunks))
-unfolding ended left joined linesOfChunks
+    linesOfChunks r g chunks ≡ ended r g (joinedChunks chunks) ++ lastLine (left g (joinedChunks chunks))
+unfolding ended left joinedChunks linesOfChunks
 chunks-after r g [] = refl
 chunks-after r g (c ∷ cs) =
     ap (λ (l : List (List ℕ)). ended r g c ++ l) (chunks-after r (left g c) cs)
-    ∙ rw (ended-append r g c (joined cs), left-append g c (joined cs)) (sym (append-assoc (ended r g c) _ _))
+    ∙ rw (ended-append r g c (joinedChunks cs), left-append g c (joinedChunks cs)) (sym (append-assoc (ended r g c) _ _))
 
 -- chunks that come from the start
-pub chunks-lines : (r : Bool) (chunks : List (List ℕ)) → linesOfChunks r [] chunks ≡ linesOf r (joined chunks)
+pub chunks-lines : (r : Bool) (chunks : List (List ℕ)) → linesOfChunks r [] chunks ≡ linesOf r (joinedChunks chunks)
 unfolding linesOf
 chunks-lines r chunks = chunks-after r [] chunks
 

@@ -1,5 +1,4 @@
 -- The lines that end in an input, and the bytes left after it, where the input is cut in two or its line feeds are known.
--- Assumes nothing.
 use mathlib.Core.Bool.{Bool, true, false, cond}
 use mathlib.Core.Path.{_≡_, refl, ap, _∙_}
 use mathlib.Core.List.{List, [], _∷_, _++_, append-assoc, append-nil}

@@ -1,5 +1,4 @@
 -- The lines of a small input, by the definition: a, carriage return, line feed, line feed, b, carriage return.
--- Assumes nothing.
 use mathlib.Core.Bool.{true, false}
 use mathlib.Core.Path.{_≡_, refl}
 use mathlib.Core.List.{[], _∷_}

@@ -1,5 +1,4 @@
 -- How far a gathering has come: what is known after i bytes, and what it makes of the whole at a line feed and at the end.
--- Assumes nothing.
 use mathlib.Core.Bool.{Bool, true, false, false≢true}
 use mathlib.Core.Path.{_≡_, refl, ap, sym, _∙_}
 use mathlib.Core.List.{List, [], _∷_, _++_, append-assoc, append-nil}

@@ -1,5 +1,4 @@
 -- A state that stands for the bytes of a line: for none, for one more, and when no line feed follows.
--- Assumes nothing.
 use mathlib.Core.Bool.{Bool, true, false, _&&_}
 use mathlib.Core.Path.{_≡_, refl, sym, subst, _∙_}
 use mathlib.Core.List.{List, []}

@@ -1,5 +1,4 @@
 -- The lines of a stream of bytes, and what the state of one that is being read says of them.
--- Assumes nothing.
 use mathlib.Core.Bool.{Bool, false, cond, _&&_}
 use mathlib.Core.Path.{_≡_}
 use mathlib.Core.List.{List, [], _∷_, _++_}
@@ -46,9 +45,9 @@ unfoldable pub linesOf : Bool → List ℕ → List (List ℕ)
 linesOf returns input = ended returns [] input ++ lastLine (left [] input)
 
 -- the chunks put together
-unfoldable pub joined : List (List ℕ) → List ℕ
-joined [] = []
-joined (chunk ∷ chunks) = chunk ++ joined chunks
+unfoldable pub joinedChunks : List (List ℕ) → List ℕ
+joinedChunks [] = []
+joinedChunks (chunk ∷ chunks) = chunk ++ joinedChunks chunks
 
 -- the lines that the chunks give one after the other, where `gathered` are the bytes that came since the last line feed
 unfoldable pub linesOfChunks : Bool → List ℕ → List (List ℕ) → List (List ℕ)

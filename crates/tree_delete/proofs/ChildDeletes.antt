@@ -1,6 +1,5 @@
 -- One level of a delete: the child that takes the place is ready for it, and what it left is what the branch can be brought up to date with.
 -- The branch itself and the other children's trees are as before.
--- Assumes nothing.
 use mathlib.Core.Path.{_≡_, refl, sym, ap, ap₂, _∙_}
 use mathlib.Core.List.{List, _∷_, _++_, map}
 use Prim.Native.Nat.{ℕ, suc, _+_, _-_, _≤_, _<_}

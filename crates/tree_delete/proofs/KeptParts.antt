@@ -1,5 +1,4 @@
 -- A node, perhaps a short one, whose tree a change leaves alone: its shape, its blocks, and that it is sound.
--- Assumes nothing.
 use mathlib.Core.Path.{_≡_}
 use mathlib.Core.List.{List}
 use Prim.Native.Nat.{ℕ, zero, suc, _≤_}

@@ -1,5 +1,4 @@
 -- Entries whose children's trees a change leaves alone: they stay good, and their shapes and blocks are as before.
--- Assumes nothing.
 use mathlib.Core.List.{List}
 use Prim.Native.Nat.{ℕ, _≤_}
 use Rattle.sequence.proofs.Items.{all-map}

@@ -1,5 +1,4 @@
 -- A delete by level, as the code tells levels apart: at a leaf a mark is taken out, at a branch the child's delete is taken up.
--- Assumes nothing.
 use mathlib.Core.Path.{_≡_, refl, _∙_}
 use mathlib.Core.List.{List}
 use Prim.Native.Nat.{ℕ, _-_, _≤_, _<_}

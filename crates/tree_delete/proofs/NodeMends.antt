@@ -1,5 +1,4 @@
 -- Two nodes of one level joined or shared out: leaves by their marks, branches by their entries, whose children's trees are as before.
--- Assumes nothing.
 use mathlib.Core.Path.{_≡_, refl, sym, ap, ap₂, _∙_}
 use mathlib.Core.List.{List, [], _∷_, _++_, map, append-nil}
 use mathlib.Core.Logic.{_⊎_, inl, ⊎-elim}

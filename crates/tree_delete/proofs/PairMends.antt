@@ -1,6 +1,5 @@
 -- Two neighbours mended in their parent. What the two became and the entries written for it, one or two, decide all the rest:
 -- the other children's trees are as before, and so is what their entries say.
--- Assumes nothing.
 use mathlib.Core.Path.{_≡_, refl, sym, ap, ap₂, subst, _∙_}
 use mathlib.Core.List.{List, [], _∷_, _++_, map}
 use mathlib.Core.Logic.{_⊎_, ⊎-elim}
@@ -46,11 +45,11 @@ own-block p zero b = omega (arith, isMark-same b b refl)
 own-block p (suc h) b = omega (arith, isMark-same b b refl)
 
 module _ (p m : List ℕ) (h b k : ℕ) (ready : PairReady p m h b k) where
-  abbrev pub leftOf : ℕ
-  leftOf = link p b k
+  abbrev pub leftBlock : ℕ
+  leftBlock = link p b k
 
-  abbrev pub rightOf : ℕ
-  rightOf = link p b (k + 1)
+  abbrev pub rightBlock : ℕ
+  rightBlock = link p b (k + 1)
 
   abbrev front : List (List ℕ)
   front = take k (entryList p b)
@@ -65,16 +64,16 @@ module _ (p m : List ℕ) (h b k : ℕ) (ready : PairReady p m h b k) where
   place = omega (arith, ready .place)
 
   -- the branch's blocks: its own, and those below each entry
-  pub all-blocks : (x : ℕ) → count x (blocksAt p (suc h) b) ≡ isMark x b + (under x front + (count x (blocksAt p h leftOf) + (count x (blocksAt p h rightOf) + under x back)))
+  pub all-blocks : (x : ℕ) → count x (blocksAt p (suc h) b) ≡ isMark x b + (under x front + (count x (blocksAt p h leftBlock) + (count x (blocksAt p h rightBlock) + under x back)))
   unfolding count
   all-blocks x =
       let es : List (List ℕ) = entryList p b in
       let e : suc k ≡ k + 1 = omega arith in
-      let first : blocksIn p h (getD es k []) ≡ blocksAt p h leftOf =
+      let first : blocksIn p h (getD es k []) ≡ blocksAt p h leftBlock =
       ap (blocksAt p h) (ap linkIn (entry-at p b k (omega (arith, place))) ∙ entry-link p b k) in
-      let second : blocksIn p h (getD es (suc k) []) ≡ blocksAt p h rightOf =
+      let second : blocksIn p h (getD es (suc k) []) ≡ blocksAt p h rightBlock =
       ap (blocksAt p h) (ap linkIn (entry-at p b (suc k) place) ∙ entry-link p b (suc k) ∙ ap (link p b) e) in
-      let parts : joined (blocksIn p h) es ≡ joined (blocksIn p h) front ++ (blocksAt p h leftOf ++ (blocksAt p h rightOf ++ joined (blocksIn p h) back)) =
+      let parts : joined (blocksIn p h) es ≡ joined (blocksIn p h) front ++ (blocksAt p h leftBlock ++ (blocksAt p h rightBlock ++ joined (blocksIn p h) back)) =
       ap (joined (blocksIn p h)) (split-two [] es k (omega (arith, entries-length p b, place)))
       ∙ joined-append (blocksIn p h) front _
       ∙ ap₂ (λ (u v : List ℕ). joined (blocksIn p h) front ++ (u ++ (v ++ joined (blocksIn p h) back))) first second in
@@ -82,19 +81,19 @@ module _ (p m : List ℕ) (h b k : ℕ) (ready : PairReady p m h b k) where
         arith,
         ap (count x) (blocks-entries p h b),
         ap (count x) parts,
-        count-additive x (joined (blocksIn p h) front) (blocksAt p h leftOf ++ (blocksAt p h rightOf ++ joined (blocksIn p h) back)),
-        count-additive x (blocksAt p h leftOf) (blocksAt p h rightOf ++ joined (blocksIn p h) back),
-        count-additive x (blocksAt p h rightOf) (joined (blocksIn p h) back),
+        count-additive x (joined (blocksIn p h) front) (blocksAt p h leftBlock ++ (blocksAt p h rightBlock ++ joined (blocksIn p h) back)),
+        count-additive x (blocksAt p h leftBlock) (blocksAt p h rightBlock ++ joined (blocksIn p h) back),
+        count-additive x (blocksAt p h rightBlock) (joined (blocksIn p h) back),
       )
 
-  pub pair-nodes : TwoNodes p h leftOf rightOf
+  pub pair-nodes : TwoNodes p h leftBlock rightBlock
   pair-nodes = record { first = ready .left; second = ready .right; apart = λ x. omega (arith, ready .agrees x, all-blocks x); enough = ready .enough }
 
-  pub right-held : isFree m rightOf ≡ 0
-  right-held = omega (arith, ready .agrees rightOf, all-blocks rightOf, own-block p h rightOf)
+  pub right-held : isFree m rightBlock ≡ 0
+  right-held = omega (arith, ready .agrees rightBlock, all-blocks rightBlock, own-block p h rightBlock)
 
   -- the two became these, q is the pool then; entries were written for them, r is the pool then
-  module _ (roots gone : List ℕ) (q r n : List ℕ) (mended : NodesMended h leftOf rightOf roots gone p q)
+  module _ (roots gone : List ℕ) (q r n : List ℕ) (mended : NodesMended h leftBlock rightBlock roots gone p q)
       (fresh : List (List ℕ)) (links : map linkIn fresh ≡ roots) (true : All (TrueEntry q h) fresh)
       (only : Only (λ x. x ≡ b) q r) (form : formOf r b ≡ formOf q b) (list : entryList r b ≡ front ++ (fresh ++ back))
       (free : (x : ℕ) → isFree n x ≡ isFree m x + count x gone) (freed : Freed m n) where
@@ -106,7 +105,7 @@ module _ (p m : List ℕ) (h b k : ℕ) (ready : PairReady p m h b k) where
         all-both (λ e. SoundChild q h (linkIn e)) (TrueEntry q h) (GoodEntry q h) (λ e s t. record { sound = s; true = t }) fresh
         (all-unmapped linkIn (SoundChild q h) fresh (subst (All (SoundChild q h)) (sym links) (mended .sound))) true
 
-    fresh-under : (x : ℕ) → count x (joined (blocksIn q h) fresh) + count x gone ≡ count x (blocksAt p h leftOf) + count x (blocksAt p h rightOf)
+    fresh-under : (x : ℕ) → count x (joined (blocksIn q h) fresh) + count x gone ≡ count x (blocksAt p h leftBlock) + count x (blocksAt p h rightBlock)
     fresh-under x =
         ap (λ (bs : List ℕ). count x bs + count x gone) (fresh-blocks fresh (blocksAt q h) ∙ ap (joined (blocksAt q h)) links) ∙ mended .blocks x
 
@@ -115,17 +114,17 @@ module _ (p m : List ℕ) (h b k : ℕ) (ready : PairReady p m h b k) where
 
     -- all that changed
     abbrev Changed : ℕ → Type 0
-    Changed x = ((x ≡ leftOf) ⊎ (x ≡ rightOf)) ⊎ (x ≡ b)
+    Changed x = ((x ≡ leftBlock) ⊎ (x ≡ rightBlock)) ⊎ (x ≡ b)
 
     changed : Only Changed p r
     changed = only-either (mended .only) only
 
-    changed-among : (x : ℕ) → Changed x → 1 ≤ isMark x b + (count x (blocksAt p h leftOf) + count x (blocksAt p h rightOf))
+    changed-among : (x : ℕ) → Changed x → 1 ≤ isMark x b + (count x (blocksAt p h leftBlock) + count x (blocksAt p h rightBlock))
     changed-among x w =
         ⊎-elim
         (λ v.
-        ⊎-elim (λ e. rw e (omega (arith, own-block p h leftOf)))
-        (λ e. rw e (omega (arith, own-block p h rightOf))) v)
+        ⊎-elim (λ e. rw e (omega (arith, own-block p h leftBlock)))
+        (λ e. rw e (omega (arith, own-block p h rightBlock))) v)
         (λ e. omega (arith, isMark-same x b (sym e))) w
 
     front-apart : (x : ℕ) → 1 ≤ count x (joined (blocksIn p h) front) → Changed x → ⊥
@@ -179,7 +178,7 @@ module _ (p m : List ℕ) (h b k : ℕ) (ready : PairReady p m h b k) where
         )
 
     -- how many entries there are
-    fresh-many : length fresh ≡ length (chop (most oneToAByte h) (shapeAt p h leftOf ++ shapeAt p h rightOf))
+    fresh-many : length fresh ≡ length (chop (most oneToAByte h) (shapeAt p h leftBlock ++ shapeAt p h rightBlock))
     fresh-many = omega (arith, length-map fresh linkIn, ap length links, length-map roots (shapeAt q h), ap length (mended .shapes))
 
     mended-many : entries r b ≡ k + (length fresh + (entries p b - suc (suc k)))
@@ -199,7 +198,7 @@ module _ (p m : List ℕ) (h b k : ℕ) (ready : PairReady p m h b k) where
     pub pair-mended : formOf q b ≡ formMarks → PairMended h b k p r m n
     pair-mended marks =
         let long : length r ≡ length p = changed .long in
-        let few = chop-one-or-two (most oneToAByte h) (shapeAt p h leftOf ++ shapeAt p h rightOf) in
+        let few = chop-one-or-two (most oneToAByte h) (shapeAt p h leftBlock ++ shapeAt p h rightBlock) in
         record {
           shape = mended-shape;
           block =

@@ -1,5 +1,4 @@
 -- The parent's entries after its two children were joined or shared out: one written and one taken out, or both written.
--- Assumes nothing.
 use mathlib.Core.Path.{_≡_, refl, sym, ap, ap₂, subst, _∙_}
 use mathlib.Core.List.{List, [], _∷_, _++_, append-assoc}
 use mathlib.Core.Logic.{⊎-elim}

@@ -1,6 +1,5 @@
 -- A delete in a whole tree: the root stays, or its only child takes its place and its block is free. The child's tree is as the delete
 -- left it, and the root's block is the one that is no longer counted.
--- Assumes nothing.
 use mathlib.Core.Path.{_≡_, refl, sym, ap, _∙_}
 use mathlib.Core.List.{List, [], _∷_, map}
 use Prim.Native.Nat.{ℕ, zero, suc, _+_, _-_, _≤_, _<_}

@@ -1,5 +1,4 @@
 -- A branch's entry adjusted to a child that lost a mark: the children's trees are as before, and the entry tells the truth again.
--- Assumes nothing.
 use mathlib.Core.Path.{_≡_, refl, sym, ap, _∙_}
 use mathlib.Core.List.{List, _∷_, map}
 use mathlib.Core.Logic.{⊎-elim}

@@ -1,5 +1,4 @@
 -- A branch of which one child may be short. If it isn't, nothing is to do; if it is, it and its neighbour are mended, which is what the shape function does.
--- Assumes nothing.
 use mathlib.Core.Path.{_≡_, refl, sym, ap, ap₂, _∙_}
 use mathlib.Core.List.{List, [], _∷_, _++_, map}
 use mathlib.Core.Logic.{⊎-elim}

@@ -1,5 +1,4 @@
 -- Two neighbours joined or shared out, and what their parent does about it. The level is the neighbours', one below the parent's.
--- Assumes nothing.
 use mathlib.Core.Path.{_≡_}
 use mathlib.Core.List.{List, [], _∷_, _++_, map}
 use mathlib.Core.Logic.{_⊎_}

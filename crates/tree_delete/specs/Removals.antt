@@ -1,5 +1,4 @@
 -- A delete at a block of any level: what it needs, and what it leaves, whether it joined nodes, shared them out or did neither.
--- Assumes nothing.
 use mathlib.Core.Path.{_≡_}
 use mathlib.Core.List.{List}
 use Prim.Native.Nat.{ℕ, _+_, _-_, _≤_, _<_}

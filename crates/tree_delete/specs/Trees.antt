@@ -1,5 +1,4 @@
 -- A delete in a whole tree: what it leaves. A root with one child gives way to it.
--- Assumes nothing.
 use mathlib.Core.Path.{_≡_}
 use mathlib.Core.List.{List}
 use Prim.Native.Nat.{ℕ, _+_, _≤_}

@@ -1,5 +1,4 @@
 -- One level up: an insert in the child that takes the place, and the branch taking up what it made of it, are the insert in the branch.
--- Assumes nothing.
 use mathlib.Core.Path.{_≡_, sym, ap, ap₂, subst, _∙_}
 use mathlib.Core.Bool.{cond}
 use mathlib.Core.List.{List, [], _∷_, _++_, map}

@@ -1,5 +1,4 @@
 -- One level down: the child that takes the place is ready for the insert where its parent is.
--- Assumes nothing.
 use mathlib.Core.Path.{_≡_, sym, ap, ap₂, _∙_}
 use mathlib.Core.Bool.{cond}
 use mathlib.Core.List.{List, _∷_, _++_}

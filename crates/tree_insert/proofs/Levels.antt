@@ -1,5 +1,4 @@
 -- What the choice of a child needs at a level that the code tested, with the level below as the code has it.
--- Assumes nothing.
 use mathlib.Core.Path.{_≡_, subst}
 use mathlib.Core.List.{List}
 use Prim.Native.Nat.{ℕ, suc, _-_, _≤_, _<_}

@@ -1,5 +1,4 @@
 -- What follows of inserts: what the outcome says of the map and of the alphabet.
--- Assumes nothing.
 use mathlib.Core.Path.{subst}
 use mathlib.Core.List.{List}
 use Prim.Native.Nat.{ℕ, zero, suc, _≤_, _<_}

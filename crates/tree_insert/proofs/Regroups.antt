@@ -1,5 +1,4 @@
 -- A branch whose entries were regrouped, and its half where it was split: their shapes, blocks and soundness, from all entries together.
--- Assumes nothing.
 use mathlib.Core.Path.{_≡_, refl, sym, ap, subst, _∙_}
 use mathlib.Core.Bool.{cond}
 use mathlib.Core.List.{List, [], _∷_, map}

@@ -1,5 +1,4 @@
 -- After the insert in a child: the branch itself and the trees of the other children are as before, and the branch can take up what the insert made of the child.
--- Assumes nothing.
 use mathlib.Core.Path.{_≡_, refl, sym, ap, ap₂, _∙_}
 use mathlib.Core.Bool.{Bool, true, false, cond, _&&_}
 use mathlib.Core.List.{List, [], _∷_, map}

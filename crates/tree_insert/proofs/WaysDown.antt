@@ -1,5 +1,4 @@
 -- The way down to a leaf: what is known at its start is known at each of its levels, and an edit can go back up it one level at a time.
--- Assumes nothing.
 use mathlib.Core.Path.{_≡_, refl, subst, _∙_}
 use mathlib.Core.List.{List}
 use Prim.Native.Nat.{ℕ, zero, suc, _+_, _-_, _≤_, _<_}
@@ -17,7 +16,7 @@ use Rattle.pool_entries.specs.declared.Seat.{Seat}
 use Rattle.tree_splits.specs.Grafts.{TakeUpReady, TakenUp}
 use Rattle.tree_splits.specs.Inserts.{InsertReady, Inserted}
 use Rattle.tree_splits.specs.declared.Grown.{Grown}
-use Rattle.tree_insert.specs.Ways.{Insertable, Down, Room, WayTo}
+use Rattle.tree_insert.specs.Ways.{Insertable, Down, LevelRoom, WayTo}
 use Rattle.tree_insert.proofs.Ascents.{inserted-above}
 use Rattle.tree_insert.proofs.Descents.{child-ready}
 use Rattle.tree_insert.proofs.Levels.{choice-ready, link-ready, place-past}
@@ -81,13 +80,13 @@ module _ (p m : List ℕ) (h b i c holder : ℕ) (blocks places children : List 
       rw (way .block) at (rw (way .place) at all)
 
 -- the way as it is found: so far it goes from block b of level h down to a block of level l
-pub record Found (p : List ℕ) (h b i l block place : ℕ) (blocks places children : List ℕ) : Type 0 where
+pub record WayFound (p : List ℕ) (h b i l block place : ℕ) (blocks places children : List ℕ) : Type 0 where
   pub low : l ≤ h
   pub high : h ≤ mostHeight
   pub some : Insertable p l block place
-  pub longBlocks : Room blocks
-  pub longPlaces : Room places
-  pub longChildren : Room children
+  pub longBlocks : LevelRoom blocks
+  pub longPlaces : LevelRoom places
+  pub longChildren : LevelRoom children
   pub hereBlock : getD blocks l 0 ≡ block
   pub herePlace : getD places l 0 ≡ place
   pub topBlock : getD blocks h 0 ≡ b
@@ -96,7 +95,7 @@ pub record Found (p : List ℕ) (h b i l block place : ℕ) (blocks places child
       → Down p (getD blocks (suc j) 0) (getD places (suc j) 0) (getD children (suc j) 0) (getD blocks j 0) (getD places j 0)
 
 pub found-start : (p : List ℕ) (h b i : ℕ) (blocks places children : List ℕ) → Insertable p h b i → h ≤ mostHeight
-    → Room blocks → Room places → Room children → Found p h b i h b i (set blocks h b) (set places h i) children
+    → LevelRoom blocks → LevelRoom places → LevelRoom children → WayFound p h b i h b i (set blocks h b) (set places h i) children
 found-start p h b i blocks places children some high longB longP longC =
     record {
       low = omega arith;
@@ -117,7 +116,7 @@ down-as : {p : List ℕ} {b i k child place : ℕ} (b' i' k' child' place' : ℕ
     → Down p b i k child place → Down p b' i' k' child' place'
 down-as b' i' k' child' place' eb ei ek ec ep down = rw eb (rw ei (rw ek (rw ec (rw ep down))))
 
-module _ (p : List ℕ) (h b i l block place : ℕ) (blocks places children : List ℕ) (found : Found p h b i l block place blocks places children)
+module _ (p : List ℕ) (h b i l block place : ℕ) (blocks places children : List ℕ) (found : WayFound p h b i l block place blocks places children)
     (more : 0 < l) (s : Seat) (seated : Seated (marksBelow p block) (entries p block) place s) (child : ℕ) (is : Is (link p block (s .k)) child) where
   next : l ≡ suc (l - 1)
   next = omega arith
@@ -159,7 +158,7 @@ module _ (p : List ℕ) (h b i l block place : ℕ) (blocks places children : Li
       (getD-set-same blocks (l - 1) child 0 (omega (arith, found .longBlocks, found .low, found .high)))
       (getD-set-same places (l - 1) (place - s .before) 0 (omega (arith, found .longPlaces, found .low, found .high))) step)))
 
-  pub found-down : Found p h b i (l - 1) child (place - s .before) blocks' places' children'
+  pub found-down : WayFound p h b i (l - 1) child (place - s .before) blocks' places' children'
   found-down =
       record {
         low = omega (arith, found .low);
@@ -181,13 +180,13 @@ module _ (p : List ℕ) (h b i l block place : ℕ) (blocks places children : Li
         steps = new-step;
       }
 
-pub found-all : (p : List ℕ) (h b i l block place : ℕ) (blocks places children : List ℕ) → Found p h b i l block place blocks places children → l ≤ 0
+pub found-all : (p : List ℕ) (h b i l block place : ℕ) (blocks places children : List ℕ) → WayFound p h b i l block place blocks places children → l ≤ 0
     → WayTo p h b i blocks places children
 found-all p h b i l block place blocks places children found end =
     record { block = found .topBlock; place = found .topPlace; steps = λ j lt. found .steps j (omega arith) lt }
 
 -- what the loop's calls need
-module _ (p : List ℕ) (h b i l block place : ℕ) (blocks places children : List ℕ) (found : Found p h b i l block place blocks places children) (more : 0 < l) where
+module _ (p : List ℕ) (h b i l block place : ℕ) (blocks places children : List ℕ) (found : WayFound p h b i l block place blocks places children) (more : 0 < l) where
   pub found-choice : (block < shares p) × (leastBranch ≤ entries p block) × (entries p block ≤ mostBranch)
   found-choice = choice-ready p _ l block place _ _ (found .some .ready) (λ e. omega arith)
 

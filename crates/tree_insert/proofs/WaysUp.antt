@@ -1,6 +1,5 @@
 -- The way back up from a leaf: an insert that has come up to a level comes up to the next where the branch there takes up what became of
 -- its child. Where nothing was split, that is one mark more in an entry.
--- Assumes nothing.
 use mathlib.Core.Path.{_≡_, refl, sym, subst, _∙_}
 use mathlib.Core.Bool.{Bool, true, false, not}
 use mathlib.Core.List.{List}
@@ -17,7 +16,7 @@ use Rattle.tree_splits.specs.Grafts.{TakeUpReady, halved, SplitReady, TakenUp}
 use Rattle.tree_splits.specs.Inserts.{InsertReady, Inserted}
 use Rattle.tree_splits.specs.declared.Grown.{Grown}
 use Rattle.tree_splits.proofs.TakeUps.{add-ready, taken-up-one}
-use Rattle.tree_insert.specs.Ways.{WayTo, Climbing, Climber, Climbed, Counter, Counted}
+use Rattle.tree_insert.specs.Ways.{WayTo, Climbing, Climber, Climbed, Counter, CountedUp}
 use Rattle.tree_insert.proofs.WaysDown.{climb-ready, climbed, climbed-all}
 
 climber : (p m : List ℕ) (h b i c holder : ℕ) (blocks children : List ℕ) (j : ℕ) (g : Grown) (q l : List ℕ)
@@ -120,10 +119,10 @@ module _ (h c : ℕ) (blocks children : List ℕ) where
         each = λ p m b i start. climbing-whole _ _ _ _ _ _ _ _ _ _ g _ _ whole (up .each p m b i start);
       }
 
-  pub counted-start : (j : ℕ) (q : List ℕ) → Counter h c blocks children j q → Counted h c blocks children j q j q
+  pub counted-start : (j : ℕ) (q : List ℕ) → Counter h c blocks children j q → CountedUp h c blocks children j q j q
   counted-start j q some = record { long = refl; some = some; each = λ holder g l whole start. climbed-start h c holder blocks children j g q l start }
 
-  module _ (j₀ : ℕ) (q₀ : List ℕ) (j : ℕ) (q : List ℕ) (so-far : Counted h c blocks children j₀ q₀ j q) where
+  module _ (j₀ : ℕ) (q₀ : List ℕ) (j : ℕ) (q : List ℕ) (so-far : CountedUp h c blocks children j₀ q₀ j q) where
     pub count-ready : j < h
         → ((getD blocks (j + 1) 0 < shares q) × (getD children (j + 1) 0 < mostBranch) × (c < mostAlphabet))
         × ((marksBelow q (getD blocks (j + 1) 0) (getD children (j + 1) 0) + 1 < wordLimit) × (countBelow q (getD blocks (j + 1) 0) (getD children (j + 1) 0) c + 1 < wordLimit))
@@ -141,7 +140,7 @@ module _ (h c : ℕ) (blocks children : List ℕ) where
           climbed-whole holder k g₀ p₀ l₀ (j + 1) g t l whole
           (next-climbed h c holder blocks children k g₀ p₀ l₀ j g q l up low unsplit t l (taken-up-one q l j _ _ (getD blocks j 0) c holder g ready whole t put))
 
-      pub next-counted : Counted h c blocks children j₀ q₀ (j + 1) t
+      pub next-counted : CountedUp h c blocks children j₀ q₀ (j + 1) t
       next-counted =
           let some = so-far .some in
           let up = climbed-start h c (some .holder) blocks children j (some .grown) q (some .map) (some .climber) in
@@ -152,10 +151,10 @@ module _ (h c : ℕ) (blocks children : List ℕ) where
             each = λ holder g l whole start. one-up holder g q₀ l j₀ g l whole (so-far .each holder g l whole start);
           }
 
-    pub all-counted : h ≤ j → Counted h c blocks children j₀ q₀ h q
+    pub all-counted : h ≤ j → CountedUp h c blocks children j₀ q₀ h q
     all-counted end =
         let e : h ≡ j = omega (arith, so-far .some .climber .climbing .low) in
-        subst (λ (k : ℕ). Counted h c blocks children j₀ q₀ k q) (sym e) so-far
+        subst (λ (k : ℕ). CountedUp h c blocks children j₀ q₀ k q) (sym e) so-far
 
   -- the rest of the way where nothing more is split
   module _ (holder j₀ : ℕ) (g₀ : Grown) (q₀ l₀ : List ℕ) (j : ℕ) (g : Grown) (q l : List ℕ) (so-far : Climbed h c holder blocks children j₀ g₀ q₀ l₀ j g q l)
@@ -166,7 +165,7 @@ module _ (h c : ℕ) (blocks children : List ℕ) where
     pub counter : Counter h c blocks children j q
     counter = record { holder = holder; grown = g; map = l; whole = whole; climber = so-far .some }
 
-    pub rest-climbed : (t : List ℕ) → Counted h c blocks children j q h t → Climbed h c holder blocks children j₀ g₀ q₀ l₀ h g t l
+    pub rest-climbed : (t : List ℕ) → CountedUp h c blocks children j q h t → Climbed h c holder blocks children j₀ g₀ q₀ l₀ h g t l
     rest-climbed t counted =
         let rest = counted .each holder g l whole (so-far .some) in
         record {

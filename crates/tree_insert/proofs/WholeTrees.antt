@@ -1,5 +1,4 @@
 -- An insert in a whole tree: the root stays whole, or its halves come under a new one.
--- Assumes nothing.
 use mathlib.Core.Path.{_≡_, sym, ap, subst, _∙_}
 use mathlib.Core.Bool.{Bool, true, false, cond}
 use mathlib.Core.List.{List, [], _∷_, map}

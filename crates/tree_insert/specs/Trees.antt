@@ -1,5 +1,4 @@
 -- An insert in a whole tree: what it needs, and what it leaves. The root may be split, and then there is a new one above it.
--- Assumes nothing.
 use mathlib.Core.Path.{_≡_}
 use mathlib.Core.List.{List}
 use Prim.Native.Nat.{ℕ, _+_, _-_, _≤_}

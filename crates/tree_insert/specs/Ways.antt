@@ -1,5 +1,4 @@
 -- The way down to the leaf that takes a place, by level: the block entered, the place in it, and the child taken there.
--- Assumes nothing.
 use mathlib.Core.Path.{_≡_}
 use mathlib.Core.Bool.{false}
 use mathlib.Core.List.{List}
@@ -29,8 +28,8 @@ pub record Down (p : List ℕ) (b i k child place : ℕ) : Type 0 where
   pub left : place ≡ i - seat .before
 
 -- an array that has an item for each level of a way
-abbrev pub Room : List ℕ → Type 0
-Room xs = length xs ≡ mostHeight + 1
+abbrev pub LevelRoom : List ℕ → Type 0
+LevelRoom xs = length xs ≡ mostHeight + 1
 
 -- the way from block b of level h
 pub record WayTo (p : List ℕ) (h b i : ℕ) (blocks places children : List ℕ) : Type 0 where
@@ -72,7 +71,7 @@ pub record Counter (h c : ℕ) (blocks children : List ℕ) (j : ℕ) (q : List 
   pub climber : Climber h c holder blocks children j grown q map
 
 -- each such insert has now come up to level j', and split nothing more
-pub record Counted (h c : ℕ) (blocks children : List ℕ) (j : ℕ) (q : List ℕ) (j' : ℕ) (q' : List ℕ) : Type 0 where
+pub record CountedUp (h c : ℕ) (blocks children : List ℕ) (j : ℕ) (q : List ℕ) (j' : ℕ) (q' : List ℕ) : Type 0 where
   pub long : length q' ≡ length q
   pub some : Counter h c blocks children j' q'
   pub each : (holder : ℕ) (g : Grown) (l : List ℕ) → g .split ≡ false → Climber h c holder blocks children j g q l

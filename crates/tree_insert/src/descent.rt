@@ -2,7 +2,7 @@
 // work there.
 ghost use Prim.Native.Nat.{_≤_};
 ghost use Rattle.geometry.specs.Layout.{mostHeight};
-ghost use Rattle.tree_insert.specs.Ways.{Insertable, WayTo, Room};
+ghost use Rattle.tree_insert.specs.Ways.{Insertable, WayTo, LevelRoom};
 use geometry::Record;
 use pool_entries::find_child;
 use pool_entries::link;
@@ -22,7 +22,7 @@ pub fn find_way(
     children: &mut [usize; LEVELS],
 )
     requires { ⌜ Insertable (now pool) level b i × (level ≤ mostHeight) ⌝ }
-    requires room { ⌜ Room (now blocks) × Room (now places) × Room (now children) ⌝ }
+    requires room { ⌜ LevelRoom (now blocks) × LevelRoom (now places) × LevelRoom (now children) ⌝ }
     ensures { λ _. ⌜ WayTo (now (pool .entry)) level b i (now (blocks .exit)) (now (places .exit)) (now (children .exit)) ⌝ }
 {
     let mut at = level;

@@ -2,7 +2,7 @@
 ghost use Prim.Native.Nat.{_≤_};
 ghost use Rattle.geometry.specs.Layout.{mostHeight};
 ghost use Rattle.tree_splits.specs.Inserts.{InsertReady, Inserted};
-ghost use Rattle.tree_insert.specs.Ways.{Climber, Climbed, Counter, Counted};
+ghost use Rattle.tree_insert.specs.Ways.{Climber, Climbed, Counter, CountedUp};
 use crate::descent::LEVELS;
 use crate::descent::find_way;
 use pool_entries::add_mark;
@@ -80,7 +80,7 @@ fn count_up(
 )
     requires high { ⌜ level ≤ mostHeight ⌝ }
     requires start { ⌜ Counter level c (now blocks) (now children) from (now pool) ⌝ }
-    ensures { λ _. ⌜ Counted level c (now (blocks .entry)) (now (children .entry)) from (now (pool .entry)) level (now (pool .exit)) ⌝ }
+    ensures { λ _. ⌜ CountedUp level c (now (blocks .entry)) (now (children .entry)) from (now (pool .entry)) level (now (pool .exit)) ⌝ }
 {
     let mut at = from;
     while at < level {

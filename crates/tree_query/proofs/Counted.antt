@@ -1,5 +1,4 @@
 -- How many marks c an open name has: what a root that is a leaf counts up to its last place, and what the entries of any other root say.
--- Assumes nothing.
 use mathlib.Core.Path.{_≡_, refl, ap, ap₂, _∙_}
 use mathlib.Core.List.{List}
 use Prim.Native.Nat.{ℕ, zero, suc, _+_, _-_, _*_, _^_, _≤_, _<_}

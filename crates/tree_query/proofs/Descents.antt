@@ -1,5 +1,4 @@
 -- The descent as the code makes it, at a level that it tested: what the calls ask, and what their answers make.
--- Assumes nothing.
 use mathlib.Core.Path.{_≡_, refl, sym, ap, ap₂, _∙_}
 use mathlib.Core.List.{List}
 use Prim.Native.Nat.{ℕ, _+_, _-_, _*_, _≤_, _<_, min}

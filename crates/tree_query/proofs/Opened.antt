@@ -1,5 +1,4 @@
 -- An open name, by the record that was read: its tree can be asked, and what its root's block answers is the name's answer.
--- Assumes nothing.
 use mathlib.Core.Path.{_≡_, ap, _∙_}
 use mathlib.Core.List.{List}
 use Prim.Native.Nat.{ℕ}

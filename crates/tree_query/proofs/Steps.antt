@@ -1,6 +1,5 @@
 -- One step down, at a branch of level suc h: the child that was chosen by what the entries tell takes the place, so the answer is the child's
 -- at what is left of the place, behind what the children before it add.
--- Assumes nothing.
 use mathlib.Core.Path.{_≡_, sym, ap, ap₂, _∙_}
 use mathlib.Core.List.{List}
 use Prim.Native.Nat.{ℕ, suc, _+_, _-_, _*_, _≤_, _<_}

@@ -1,5 +1,4 @@
 -- Which trees can be asked: those of a sound pool, each child by what its parent says of it.
--- Assumes nothing.
 use mathlib.Core.List.{List}
 use Prim.Native.Nat.{ℕ, zero, suc, _≤_}
 use native.Mathlib.Omega.{arith}

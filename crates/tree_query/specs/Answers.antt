@@ -1,5 +1,4 @@
 -- What the queries answer, of a block's tree and of a name's.
--- Assumes nothing.
 use mathlib.Core.Path.{_≡_}
 use mathlib.Core.List.{List}
 use Prim.Native.Nat.{ℕ, _+_}

@@ -1,5 +1,4 @@
 -- What a query asks of the tree that it goes down: blocks of the pool that aren't too full, and entries that tell their children's marks.
--- Assumes nothing.
 use mathlib.Core.List.{List}
 use Prim.Native.Nat.{ℕ, zero, suc, _<_}
 use Rattle.pool.specs.Blocks.{entries, link}

@@ -1,5 +1,4 @@
 -- What the queries ask of a name, from what the program has tested.
--- Assumes nothing.
 use mathlib.Core.Bool.{Bool, true}
 use mathlib.Core.Path.{_≡_, ap, _∙_}
 use mathlib.Core.List.{List}

@@ -1,5 +1,4 @@
 -- What the program reads behind the pool.
--- Assumes nothing.
 use Prim.Native.Nat.{ℕ}
 
 -- bytes of what is expected of each name

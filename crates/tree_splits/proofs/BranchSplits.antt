@@ -1,5 +1,4 @@
 -- A full branch split: it is cut so that the half which takes the entry has room for it. Of four entries each half has two, so look at them one by one.
--- Assumes nothing.
 use mathlib.Core.Path.{_≡_, refl, sym, ap, ap₂, _∙_}
 use mathlib.Core.List.{List, [], _∷_}
 use mathlib.Core.Logic.{inl, inr}

@@ -1,5 +1,4 @@
 -- An entry put into a branch with room: a gap is opened, and the entry written into it.
--- Assumes nothing.
 use mathlib.Core.Path.{_∙_}
 use mathlib.Core.List.{List}
 use Prim.Native.Nat.{ℕ, _≤_, _<_}
@@ -13,11 +12,11 @@ use Rattle.pool_blocks.specs.Contents.{entryBytes, BranchAt}
 use Rattle.pool_entries.proofs.Neighbours.{entries-kept, form-kept, only-entry}
 use Rattle.pool_entries.specs.Entries.{PutEntry}
 use Rattle.pool_entries.specs.declared.Summary.{Summary}
-use Rattle.tree_splits.specs.Entries.{Holds}
+use Rattle.tree_splits.specs.Entries.{EntryHolds}
 use Rattle.tree_splits.specs.Grafts.{EntryPut}
 
 -- the entry that was written
-pub entry-holds : (b k child : ℕ) (summary : Summary) (p q : List ℕ) → PutEntry b k child summary p q → Holds child summary (entryBytes q b k)
+pub entry-holds : (b k child : ℕ) (summary : Summary) (p q : List ℕ) → PutEntry b k child summary p q → EntryHolds child summary (entryBytes q b k)
 entry-holds b k child summary p q put =
     record {
       link = entry-link q b k ∙ put .link;

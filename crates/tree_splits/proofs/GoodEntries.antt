@@ -1,5 +1,4 @@
 -- A branch is sound where its entries are good: each one's child is sound, and what it says is true. An entry stays good as long as its child's tree keeps its bytes.
--- Assumes nothing.
 use mathlib.Core.Path.{_≡_, sym, ap, _∙_}
 use mathlib.Core.List.{List, _∷_, map}
 use Prim.Native.Nat.{ℕ, suc}

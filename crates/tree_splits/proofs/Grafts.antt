@@ -1,5 +1,4 @@
 -- An entry more for a branch, with room or with a split: the branch's entries are chopped as the shape function chops them.
--- Assumes nothing.
 use mathlib.Core.Path.{_≡_, refl, sym, ap, _∙_}
 use mathlib.Core.Bool.{true, false}
 use mathlib.Core.List.{List, [], _∷_}
@@ -19,7 +18,7 @@ use Rattle.pool.specs.Words.{wordLimit}
 use Rattle.pool_blocks.proofs.Branches.{entries-length}
 use Rattle.pool_blocks.specs.Contents.{entryList, BranchAt}
 use Rattle.pool_entries.specs.declared.Summary.{Summary}
-use Rattle.pool_holders.specs.Maps.{isFree, Taken}
+use Rattle.pool_holders.specs.Maps.{isFree, BlockTaken}
 use Rattle.pool_holders.proofs.Takes.{taken-one, taken-free, taken-blocks, taken-entered, entered-none}
 use Rattle.tree_splits.specs.Entries.{putAt}
 use Rattle.tree_splits.specs.Grafts.{EntryPut, BranchSplit, GraftReady, Regrouped, Grafted}
@@ -55,7 +54,7 @@ module _ (p m : List ℕ) (b k child holder : ℕ) (summary : Summary) (ready : 
             (omega (arith, length-putAt k (put .entry) (entryList p b) place, entries-length p b));
       }
 
-  module _ (new : ℕ) (n : List ℕ) (taken : Taken holder new m n) where
+  module _ (new : ℕ) (n : List ℕ) (taken : BlockTaken holder new m n) where
     pub new-inside : new < shares p
     new-inside = omega (arith, taken .inside, ready .map .blocks)
 

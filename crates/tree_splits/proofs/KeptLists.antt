@@ -1,5 +1,4 @@
 -- Entries whose children's trees keep their bytes: all of them stay good, and their shapes and blocks stay.
--- Assumes nothing.
 use mathlib.Core.Path.{_≡_}
 use mathlib.Core.List.{List, map}
 use Prim.Native.Nat.{ℕ, _≤_}

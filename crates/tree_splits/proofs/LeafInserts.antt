@@ -1,5 +1,4 @@
 -- A mark put into a leaf, with room or split: each part of what an insert promises, at level 0.
--- Assumes nothing.
 use mathlib.Core.Path.{_≡_, refl, sym, ap, subst, _∙_}
 use mathlib.Core.List.{List, [], _∷_}
 use mathlib.Core.Logic.{⊎-elim}
@@ -29,7 +28,7 @@ use Rattle.pool.specs.Trees.{pathAt}
 use Rattle.pool_blocks.specs.Contents.{LeafAt}
 use Rattle.pool_blocks.specs.Leaves.{MarkInserted}
 use Rattle.sequence.proofs.Items.{all-left, all-right}
-use Rattle.pool_holders.specs.Maps.{freeIn, Taken}
+use Rattle.pool_holders.specs.Maps.{freeIn, BlockTaken}
 use Rattle.pool_holders.proofs.Takes.{taken-one, taken-free, taken-blocks, taken-entered, entered-none}
 use Rattle.tree_splits.specs.Inserts.{InsertReady, Inserted, LeafSplit}
 
@@ -87,7 +86,7 @@ module _ (b i c holder : ℕ) (p m : List ℕ) (ready : InsertReady p m 0 b i c 
         took = omega (arith, leaf-whole room);
       }
 
-  module _ (new : ℕ) (n : List ℕ) (taken : Taken holder new m n) where
+  module _ (new : ℕ) (n : List ℕ) (taken : BlockTaken holder new m n) where
     -- what a split needs
     pub new-inside : new < shares p
     new-inside = omega (arith, taken .inside, ready .map .blocks)

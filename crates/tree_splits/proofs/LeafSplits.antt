@@ -1,5 +1,4 @@
 -- A full leaf split: it is cut so that the half which takes the mark has room for it, and that half is one mark short until it has it.
--- Assumes nothing.
 use mathlib.Core.Path.{_≡_, sym, ap, ap₂, _∙_}
 use mathlib.Core.List.{List, [], _∷_}
 use mathlib.Core.Logic.{inl, inr}

@@ -1,5 +1,4 @@
 -- A new root: a free block is emptied and gets an entry for each half. No tree below it changes, since it was free.
--- Assumes nothing.
 use mathlib.Core.Path.{_≡_, refl, sym, ap, ap₂, subst, _∙_}
 use mathlib.Core.List.{List, [], _∷_, map}
 use Prim.Native.Nat.{ℕ, _≤_, _<_}
@@ -20,7 +19,7 @@ use Rattle.pool_blocks.specs.Contents.{linkIn, entryBytes, entryList}
 use Rattle.pool_blocks.specs.Moves.{Emptied}
 use Rattle.pool_entries.specs.Summaries.{SummaryOf, SmallSums}
 use Rattle.pool_entries.specs.declared.Summary.{Summary}
-use Rattle.pool_holders.specs.Maps.{isFree, Taken}
+use Rattle.pool_holders.specs.Maps.{isFree, BlockTaken}
 use Rattle.pool_holders.proofs.Takes.{taken-one, taken-free, taken-blocks, taken-entered}
 use Rattle.tree_splits.specs.Entries.{putAt}
 use Rattle.tree_splits.specs.Grafts.{EntryPut}
@@ -53,7 +52,7 @@ module _ (p m : List ℕ) (h left right holder : ℕ) (ready : RootReady p m h l
   pub right-ready : (right < shares p) × (entries p right ≤ most oneToAByte h) × SmallSums p h right
   right-ready = summary-ready p h right (ready .rightSound) (omega (arith, ready .short))
 
-  module _ (root : ℕ) (n : List ℕ) (taken : Taken holder root m n) where
+  module _ (root : ℕ) (n : List ℕ) (taken : BlockTaken holder root m n) where
     module _ (first second : Summary) (firstOf : SummaryOf p h left first) (secondOf : SummaryOf p h right second) (q : List ℕ)
         (pair : PairWritten root left right first second p q) where
       links : map linkIn (pair .one ∷ pair .two ∷ []) ≡ left ∷ right ∷ []

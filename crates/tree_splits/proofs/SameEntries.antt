@@ -1,5 +1,4 @@
 -- A branch that keeps its bytes keeps its entries.
--- Assumes nothing.
 use mathlib.Core.Path.{_≡_, ap, _∙_}
 use mathlib.Core.List.{List}
 use Prim.Native.Nat.{ℕ, _+_, _≤_}

@@ -1,5 +1,4 @@
 -- A branch takes up what an insert made of a child: an entry that says one mark more, or two entries written with the summaries of the pieces.
--- Assumes nothing.
 use mathlib.Core.Path.{_≡_, refl, sym, ap, ap₂, _∙_}
 use mathlib.Core.Bool.{Bool, true, false, cond}
 use mathlib.Core.List.{List, [], _∷_, _++_}
@@ -29,7 +28,7 @@ use Rattle.pool_entries.specs.Entries.{PutEntry, AddMark}
 use Rattle.pool_entries.specs.Summaries.{SummaryOf, SmallSums}
 use Rattle.pool_entries.specs.declared.Summary.{Summary}
 use Rattle.pool_holders.proofs.Maps.{fits-after}
-use Rattle.tree_splits.specs.Entries.{putAt, Holds, TrueEntry, SoundChild}
+use Rattle.tree_splits.specs.Entries.{putAt, EntryHolds, TrueEntry, SoundChild}
 use Rattle.tree_splits.specs.Grafts.{GraftReady, Regrouped, Grafted, TakeUpReady, TakenUp}
 use Rattle.tree_splits.specs.Inserts.{roots}
 use Rattle.tree_splits.specs.declared.Grown.{Grown}
@@ -51,7 +50,7 @@ putAt-behind (x ∷ xs) y z ys zero e = absurd (omega arith)
 putAt-behind (x ∷ xs) y z ys (suc k) e = ap (λ l. x ∷ l) (putAt-behind xs y z ys k (omega arith))
 
 -- what is written with a sound block's summary is true
-pub holds-true : (p : List ℕ) (h child : ℕ) (summary : Summary) (e : List ℕ) → Holds child summary e → SummaryOf p h child summary → SoundChild p h child → TrueEntry p h e
+pub holds-true : (p : List ℕ) (h child : ℕ) (summary : Summary) (e : List ℕ) → EntryHolds child summary e → SummaryOf p h child summary → SoundChild p h child → TrueEntry p h e
 holds-true p h child summary e holds of sound =
     record {
       marks = rw (holds .link) (holds .marks ∙ of .marks ∙ own-marks p mostAlphabet _ h child (sound .0) (sound .1));
@@ -151,7 +150,7 @@ module _ (p m : List ℕ) (h b k child c holder : ℕ) (g : Grown) (ready : Take
       taken-up-two r t n grafted =
           let es : List (List ℕ) = entryList p b in
           let e : List ℕ = entryBytes q b k in
-          let holds : Holds child left e = entry-holds b k child left p q put in
+          let holds : EntryHolds child left e = entry-holds b k child left p q put in
           let list : entryList q b ≡ take k es ++ e ∷ drop (suc k) es = entry-written p q b k (ready .branch) (ready .place) (put .same) in
           let front : length (take k es) ≡ k = omega (arith, length-take k es, entries-length p b, ready .place) in
           let all : putAt (k + 1) (grafted .entry) (entryList q b) ≡ take k es ++ e ∷ grafted .entry ∷ drop (suc k) es =

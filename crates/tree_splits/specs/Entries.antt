@@ -1,5 +1,4 @@
 -- A branch's entries as lists of bytes: what one says, and that what it says is true.
--- Assumes nothing.
 use mathlib.Core.Path.{_≡_}
 use mathlib.Core.List.{List, _∷_, _++_}
 use Prim.Native.Nat.{ℕ, _<_}
@@ -18,7 +17,7 @@ abbrev pub putAt : {A : Type 0} → ℕ → A → List A → List A
 putAt k x xs = take k xs ++ x ∷ drop k xs
 
 -- an entry says this child and this summary
-pub record Holds (child : ℕ) (summary : Summary) (entry : List ℕ) : Type 0 where
+pub record EntryHolds (child : ℕ) (summary : Summary) (entry : List ℕ) : Type 0 where
   pub link : linkIn entry ≡ child
   pub marks : belowIn entry ≡ summary .marks
   pub counts : (c : ℕ) → c < mostAlphabet → countIn entry c ≡ getD (summary .counts) c 0

@@ -1,5 +1,4 @@
 -- A branch takes up what an edit made of a child: an entry is written anew, and one is put in behind it where the child was split.
--- Assumes nothing.
 use mathlib.Core.Path.{_≡_}
 use mathlib.Core.Bool.{true, cond}
 use mathlib.Core.List.{List, [], _∷_, _++_, map}
@@ -20,14 +19,14 @@ use Rattle.pool.specs.Words.{wordLimit}
 use Rattle.pool_blocks.specs.Contents.{linkIn, entryList, BranchAt}
 use Rattle.pool_entries.specs.declared.Summary.{Summary}
 use Rattle.pool_holders.specs.Maps.{MapFits, isFree, freeIn, Entered}
-use Rattle.tree_splits.specs.Entries.{putAt, Holds, TrueEntry, SoundChild}
+use Rattle.tree_splits.specs.Entries.{putAt, EntryHolds, TrueEntry, SoundChild}
 use Rattle.tree_splits.specs.Inserts.{roots}
 use Rattle.tree_splits.specs.declared.Grown.{Grown}
 
 -- one entry more in a branch with room, number k
 pub record EntryPut (b k child : ℕ) (summary : Summary) (p q : List ℕ) : Type 0 where
   pub entry : List ℕ
-  pub holds : Holds child summary entry
+  pub holds : EntryHolds child summary entry
   pub only : Only (λ x. x ≡ b) p q
   pub form : formOf q b ≡ formOf p b
   pub many : entries q b ≡ entries p b + 1
@@ -36,7 +35,7 @@ pub record EntryPut (b k child : ℕ) (summary : Summary) (p q : List ℕ) : Typ
 -- one entry more for a full branch, number k: half of all go to the block `new`
 pub record BranchSplit (b new k child : ℕ) (summary : Summary) (p q : List ℕ) : Type 0 where
   pub entry : List ℕ
-  pub holds : Holds child summary entry
+  pub holds : EntryHolds child summary entry
   pub only : Only (λ x. (x ≡ b) ⊎ (x ≡ new)) p q
   pub form : formOf q b ≡ formOf p b
   pub newForm : formOf q new ≡ formMarks
@@ -68,7 +67,7 @@ pub record Regrouped (b holder : ℕ) (r : Grown) (all : List (List ℕ)) (p q m
 -- the same where the entries are those before and one more, number k
 pub record Grafted (b k child holder : ℕ) (summary : Summary) (r : Grown) (p q m n : List ℕ) : Type 0 where
   pub entry : List ℕ
-  pub holds : Holds child summary entry
+  pub holds : EntryHolds child summary entry
   pub regrouped : Regrouped b holder r (putAt k entry (entryList p b)) p q m n
 
 -- entry k of a branch stands for a child that an edit made this of; together its pieces have one mark more than the entry says, a c

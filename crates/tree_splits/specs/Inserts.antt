@@ -1,5 +1,4 @@
 -- An insert at a block of any level: what it needs, and what it leaves, whether it split the block or not.
--- Assumes nothing.
 use mathlib.Core.Path.{_≡_}
 use mathlib.Core.Bool.{cond}
 use mathlib.Core.List.{List, [], _∷_, map}

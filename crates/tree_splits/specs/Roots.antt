@@ -1,5 +1,4 @@
 -- A new root above the two halves of one that was split.
--- Assumes nothing.
 use mathlib.Core.Path.{_≡_}
 use mathlib.Core.List.{List, [], _∷_}
 use Prim.Native.Nat.{ℕ, suc, _+_, _-_, _≤_, _<_}
@@ -15,14 +14,14 @@ use Rattle.pool.specs.Words.{wordLimit}
 use Rattle.pool_blocks.specs.Contents.{entryList}
 use Rattle.pool_entries.specs.declared.Summary.{Summary}
 use Rattle.pool_holders.specs.Maps.{MapFits, isFree, freeIn, Agrees, Entered}
-use Rattle.tree_splits.specs.Entries.{Holds, SoundChild}
+use Rattle.tree_splits.specs.Entries.{EntryHolds, SoundChild}
 
 -- the block is a branch with these two entries
 pub record PairWritten (b left right : ℕ) (first second : Summary) (p q : List ℕ) : Type 0 where
   pub one : List ℕ
   pub two : List ℕ
-  pub holdsOne : Holds left first one
-  pub holdsTwo : Holds right second two
+  pub holdsOne : EntryHolds left first one
+  pub holdsTwo : EntryHolds right second two
   pub only : Only (λ x. x ≡ b) p q
   pub form : formOf q b ≡ formMarks
   pub list : entryList q b ≡ one ∷ two ∷ []

@@ -1,5 +1,4 @@
 -- `answers::answer_chunk` is safe and ends: each step takes a byte of the chunk, since out has room for a line.
--- Assumes nothing.
 use mathlib.Core.Path.{_≡_, sym, _∙_}
 use Prim.Native.Nat.{_+_, _-_, _≤_, _<_}
 use native.Mathlib.Omega.{arith}

@@ -1,5 +1,4 @@
 -- `answers::answer_last` is safe: the line that it writes stands within out.
--- Assumes nothing.
 use mathlib.Core.Path.{sym}
 use lib.Seq.{length-take-le}
 use borrow.Author.Needs.{needs}

@@ -1,5 +1,4 @@
 -- `answers::main` is safe and ends: the measure is the number of turns that are left.
--- Assumes nothing.
 use mathlib.Core.Path.{_≡_}
 use borrow.Author.Needs.{needs}
 use lib.ListN.{length}

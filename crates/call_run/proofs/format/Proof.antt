@@ -1,5 +1,4 @@
 -- `call_run::format` meets its contract: refused by the length, or cleared and the layout's number put.
--- Assumes nothing.
 use borrow.Author.Tests.{not-true, not-false}
 use Rattle.call_run.proofs.Formatting.{format-refused, byte-there, format-done}
 use borrow.Author.Needs.{needs}

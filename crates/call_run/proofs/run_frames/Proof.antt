@@ -1,16 +1,16 @@
--- `call_run::run_frames` meets its contract: `Progress` holds at the loop's start, after each frame and at its end.
--- The measure is the number of frames left. Assumes nothing.
+-- `call_run::run_frames` meets its contract: `FramesDone` holds at the loop's start, after each frame and at its end.
+-- The measure is the number of frames left.
 use Prim.Native.Nat.{_-_, _/_, _<_}
 use borrow.Author.Needs.{needs}
 use native.Mathlib.Omega.{arith}
 use lib.ListN.{length}
 use Rattle.geometry.specs.Limits.{frameSize}
-use Rattle.call_run.proofs.Progress.{Progress, none-run, pool-stays, map-stays, one-run, all-run}
+use Rattle.call_run.proofs.Progress.{FramesDone, none-run, pool-stays, map-stays, one-run, all-run}
 use Rattle.call_run.proofs.run_frames.Statement.{statement}
 use Rattle.call_run.proofs.run_frames.Tie as tie
 
 abbrev Inv-loop : tie.InvT-loop
-Inv-loop pool₀ commands answers₀ map₀ many k₀ pool answers map k = Progress pool₀ commands answers₀ k pool map answers
+Inv-loop pool₀ commands answers₀ map₀ many k₀ pool answers map k = FramesDone pool₀ commands answers₀ k pool map answers
 
 abbrev μ-loop : tie.MeasureT-loop
 μ-loop pool₀ commands answers₀ map₀ many k₀ pool answers map k = length commands / frameSize - k

@@ -1,5 +1,4 @@
 -- `call_tests::status_of_call` meets its contract, test by test.
--- Assumes nothing.
 use borrow.Author.Needs.{needs}
 use borrow.Author.Tests.{not-true, not-false}
 use Rattle.call_tests.proofs.Testing.{refuse-101, refuse-102, refuse-103, refuse-104, accept}

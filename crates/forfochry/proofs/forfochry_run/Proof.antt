@@ -1,5 +1,4 @@
 -- `forfochry::forfochry_run` meets its contract: what `run` promises of its outcome holds of the number made of it.
--- Assumes nothing.
 use Rattle.forfochry.proofs.Halves.{ran-as-number}
 use borrow.Author.Needs.{needs}
 use Rattle.forfochry.proofs.forfochry_run.Statement.{statement}

@@ -1,5 +1,4 @@
 -- `forfochry::number` meets its contract: the halves of the number are the outcome's fields.
--- Assumes nothing.
 use native.Mathlib.Omega.{arith}
 use Rattle.forfochry.proofs.Halves.{halves-are}
 use borrow.Author.Needs.{needs}

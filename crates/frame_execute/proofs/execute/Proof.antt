@@ -1,5 +1,4 @@
 -- `frame_execute::execute` meets its contract: a refusal and a query step to the same pool, and a change to the one that it leaves.
--- Assumes nothing.
 use Rattle.frame_execute.proofs.Stepping.{refused-steps, asked-steps}
 use borrow.Author.Needs.{needs}
 use Rattle.frame_execute.proofs.execute.Statement.{statement}

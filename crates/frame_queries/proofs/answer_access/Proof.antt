@@ -1,5 +1,4 @@
 -- `frame_queries::answer_access` meets its contract: the mark and the depth found are those of the machine.
--- Assumes nothing.
 use Rattle.frame_queries.proofs.Answering.{access-ready, depth-fits, access-answers}
 use borrow.Author.Needs.{needs}
 use Rattle.frame_queries.proofs.answer_access.Statement.{statement}

@@ -1,5 +1,4 @@
 -- `frame_queries::answer_length` meets its contract: the record says how many marks the name has.
--- Assumes nothing.
 use Rattle.frame_queries.proofs.Answering.{length-ready, length-answers}
 use borrow.Author.Needs.{needs}
 use Rattle.frame_queries.proofs.answer_length.Statement.{statement}

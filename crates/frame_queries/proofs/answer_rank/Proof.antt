@@ -1,5 +1,4 @@
 -- `frame_queries::answer_rank` meets its contract.
--- Assumes nothing.
 use Rattle.frame_queries.proofs.Answering.{rank-ready, rank-fits, rank-answers}
 use borrow.Author.Needs.{needs}
 use Rattle.frame_queries.proofs.answer_rank.Statement.{statement}

@@ -1,5 +1,4 @@
 -- `frame_queries::answer_select` meets its contract.
--- Assumes nothing.
 use Rattle.frame_queries.proofs.Answering.{select-ready, select-fits, select-answers}
 use borrow.Author.Needs.{needs}
 use Rattle.frame_queries.proofs.answer_select.Statement.{statement}

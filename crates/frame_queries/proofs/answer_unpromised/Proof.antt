@@ -1,5 +1,4 @@
 -- `frame_queries::answer_unpromised` meets its contract.
--- Assumes nothing.
 use Rattle.frame_queries.proofs.Answering.{unpromised-answers}
 use borrow.Author.Needs.{needs}
 use Rattle.frame_queries.proofs.answer_unpromised.Statement.{statement}

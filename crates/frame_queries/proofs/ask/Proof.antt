@@ -1,5 +1,4 @@
 -- `frame_queries::ask` meets its contract: a code from access on that nothing refuses is one of five.
--- Assumes nothing.
 use Rattle.frame_queries.proofs.Answering.{last-code}
 use borrow.Author.Needs.{needs}
 use Rattle.frame_queries.proofs.ask.Statement.{statement}

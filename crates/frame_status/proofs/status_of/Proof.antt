@@ -1,5 +1,4 @@
 -- `frame_status::status_of` meets its contract: refused by one of the first three tests, or the later ones decide.
--- Assumes nothing.
 use Rattle.frame_status.specs.Statuses.{WellFormed}
 use Rattle.frame_status.proofs.Forms.{refused-unknown, refused-name, refused-unused, is-listed, well-formed}
 use Rattle.frame_status.proofs.Refused.{unpromised-passes}

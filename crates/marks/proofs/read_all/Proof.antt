@@ -1,5 +1,4 @@
 -- `marks::read_all` is safe and ends: the measure is the number of turns that are left.
--- Assumes nothing.
 use mathlib.Core.Path.{_≡_}
 use Prim.Native.Nat.{_≤_}
 use borrow.Author.Needs.{needs}

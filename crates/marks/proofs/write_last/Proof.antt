@@ -1,5 +1,4 @@
 -- `marks::write_last` is safe: the frames that it writes stand within out.
--- Assumes nothing.
 use mathlib.Core.Path.{sym}
 use lib.Seq.{length-take-le}
 use borrow.Author.Needs.{needs}

@@ -1,5 +1,4 @@
 -- `pool_check::check` meets its contract: refused by the length, the header or the promises, and else what the walk over all names says, with a map of zeros.
--- Assumes nothing.
 use borrow.Author.Needs.{needs}
 use borrow.Author.Tests.{not-true, not-false}
 use Rattle.pool_check.proofs.Checks.{zeros-clear, length-refused, long-enough, short-enough, header-refused, over-promised, names-checked}

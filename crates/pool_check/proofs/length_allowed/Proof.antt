@@ -1,5 +1,4 @@
 -- `pool_check::length_allowed` meets its contract, test by test.
--- Assumes nothing.
 use Rattle.pool_check.proofs.Lengths.{not-whole, too-short, at-most}
 use Rattle.pool_check.proofs.length_allowed.Statement.{statement}
 use Rattle.pool_check.proofs.length_allowed.Tie as tie

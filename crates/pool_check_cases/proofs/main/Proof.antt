@@ -1,5 +1,4 @@
 -- `pool_check_cases::main` meets its contract. The loop's invariant: the head is as long as it was. The turns left fall.
--- Assumes nothing.
 use borrow.Author.Needs.{needs}
 use mathlib.Core.Path.{_≡_}
 use lib.ListN.{length}

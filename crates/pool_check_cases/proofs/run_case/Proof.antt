@@ -1,5 +1,5 @@
 -- `pool_check_cases::run_case` is safe and ends: the parts of the buffer that are lent are as long as the head says, which is at most the buffer's
--- length. Assumes nothing.
+-- length.
 use native.Mathlib.Omega.{arith}
 use lib.ListN.{length-append, length-take, length-drop}
 use borrow.Author.Needs.{needs}

@@ -1,5 +1,4 @@
 -- `pool_holders::take_block` meets its contract: the place of the first 0 is that of a free block.
--- Assumes nothing.
 use native.Mathlib.Omega.{arith}
 use borrow.Author.Needs.{needs}
 use Rattle.pool_holders.proofs.Takes.{found-place, found-taken}

@@ -1,6 +1,5 @@
 -- `program_batches::complete` meets its contract. The loop's invariant: what stands before, and what will be made of the rest, are the
 -- whole; the answers that are left suffice for the places that are.
--- Assumes nothing.
 use Prim.Native.Nat.{_-_}
 use native.Mathlib.Omega.{arith}
 use borrow.Author.Needs.{needs}

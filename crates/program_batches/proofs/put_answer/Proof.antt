@@ -1,5 +1,4 @@
 -- `program_batches::put_answer` meets its contract: by whether the place was kept. Where it was, the caller has an answer there.
--- Assumes nothing.
 use mathlib.Core.Path.{refl}
 use native.Mathlib.Omega.{arith}
 use borrow.Author.Needs.{needs}

@@ -1,5 +1,4 @@
 -- `program_batches::put_line` meets its contract: by what the line reads as.
--- Assumes nothing.
 use mathlib.Core.Path.{sym, _∙_}
 use borrow.Author.Needs.{needs}
 use Rattle.program_batches.proofs.Reading.{bad-put, frame-put}

@@ -1,6 +1,5 @@
 -- `program_batches::read_lines` meets its contract. The loop's invariant: the lines read so far, their drafts and commands. Each took a
 -- byte at least, so the loop isn't left before its first step where there is room.
--- Assumes nothing.
 use mathlib.Core.Path.{_≡_, refl, _∙_}
 use Prim.Native.Nat.{_-_}
 use native.Mathlib.Omega.{arith}

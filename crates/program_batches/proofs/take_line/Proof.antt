@@ -1,5 +1,4 @@
 -- `program_batches::take_line` meets its contract: by whether the bytes taken end a line.
--- Assumes nothing.
 use native.Mathlib.Omega.{arith}
 use borrow.Author.Needs.{needs}
 use Rattle.program_batches.proofs.Reading.{step-within, line-taken, none-taken}

@@ -1,5 +1,4 @@
 -- `program_insertions::finish` meets its contract: by whether a line without a line feed is left.
--- Assumes nothing.
 use Rattle.program_insertions.proofs.Steps.{ends-whole, ends-open}
 use borrow.Author.Needs.{needs}
 use Rattle.program_insertions.proofs.finish.Statement.{statement}

@@ -1,5 +1,4 @@
 -- `program_insertions::put_frame` meets its contract: below the limit the written line is the frame, past it nothing is written.
--- Assumes nothing.
 use Rattle.program_insertions.proofs.Steps.{frame-put, no-frame-put}
 use borrow.Author.Needs.{needs}
 use Rattle.program_insertions.proofs.put_frame.Statement.{statement}

@@ -1,20 +1,19 @@
 -- `program_insertions::take_in` meets its contract. The loop's invariant: what has been taken so far follows, and nothing is filled where
 -- nothing was taken, so that the loop isn't left before its first step where there is room.
--- Assumes nothing.
 use mathlib.Core.Path.{_≡_, refl}
 use Prim.Native.Nat.{ℕ, zero, suc, _+_, _-_, _≤_, _<_}
 use native.Mathlib.Omega.{arith}
 use borrow.Author.Needs.{needs}
 use lib.ListN.{length}
 use Rattle.text_lines.proofs.Chunks.{length-rest}
-use Rattle.program_insertions.specs.Stream.{TakesIn}
+use Rattle.program_insertions.specs.Stream.{FileTakesIn}
 use Rattle.program_insertions.proofs.Steps.{none-yet, both-taken}
 use Rattle.program_insertions.proofs.take_in.Statement.{statement}
 use Rattle.program_insertions.proofs.take_in.Tie as tie
 
 abbrev Inv-loop : tie.InvT-loop
 Inv-loop chunk keep₀ out₀ at₀ filled₀ progress₀ keep out at filled progress =
-    TakesIn chunk progress₀ keep₀ keep out₀ out 0 (record { taken = at; filled = filled; after = progress }) × (at ≡ 0 → filled ≡ 0) × (filled ≤ length out)
+    FileTakesIn chunk progress₀ keep₀ keep out₀ out 0 (record { taken = at; filled = filled; after = progress }) × (at ≡ 0 → filled ≡ 0) × (filled ≤ length out)
 
 abbrev μ-loop : tie.MeasureT-loop
 μ-loop chunk keep₀ out₀ at₀ filled₀ progress₀ keep out at filled progress = length chunk - at

@@ -1,5 +1,4 @@
 -- `program_insertions::take_line` meets its contract: by whether the bytes taken end a line.
--- Assumes nothing.
 use Rattle.program_insertions.proofs.Steps.{line-taken, none-taken}
 use borrow.Author.Needs.{needs}
 use Rattle.program_insertions.proofs.take_line.Statement.{statement}

@@ -1,5 +1,4 @@
 -- `program_sessions::answer` meets its contract: the call is accepted if the pool is sound, and its answers complete the drafts.
--- Assumes nothing.
 use mathlib.Core.Path.{refl}
 use borrow.Author.Needs.{needs}
 use Rattle.program_sessions.proofs.Following.{lines-answered}

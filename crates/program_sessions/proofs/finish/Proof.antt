@@ -1,5 +1,4 @@
 -- `program_sessions::finish` meets its contract: by whether a line without a line feed is left.
--- Assumes nothing.
 use borrow.Author.Needs.{needs}
 use Rattle.program_sessions.proofs.Following.{ends-whole, ends-open}
 use Rattle.program_sessions.proofs.finish.Statement.{statement}

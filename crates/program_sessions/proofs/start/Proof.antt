@@ -1,7 +1,6 @@
 -- `program_sessions::start` meets its contract: a formatted pool stands for the state at the start, and no byte for no line.
--- Assumes nothing.
 use borrow.Author.Needs.{needs}
-use Rattle.program_sessions.proofs.Following.{starts}
+use Rattle.program_sessions.proofs.Following.{session-starts}
 use Rattle.program_sessions.proofs.start.Statement.{statement}
 use Rattle.program_sessions.proofs.start.Tie as tie
 
@@ -15,7 +14,7 @@ same-length : tie.Need-same-length
 same-length c = search needs
 
 returns : tie.Need-returns
-returns c = search starts
+returns c = search session-starts
 
 pub start-spec : {M : Type 1} → statement M
 start-spec = tie.close (tie.spec format-requires start-requires same-length returns)

@@ -1,5 +1,4 @@
 -- `program_sessions::take_in` meets its contract: the lines read are what the call needs, and their answers follow what was written.
--- Assumes nothing.
 use mathlib.Core.Path.{sym}
 use borrow.Author.Needs.{needs}
 use lib.Seq.{length-take-le}

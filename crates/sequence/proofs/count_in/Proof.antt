@@ -1,6 +1,5 @@
 -- `sequence::count_in` meets its contract. The loop's invariant: `met` is the count from `from` up to `start`. A turn joins the
 -- next piece of 255 marks to it, and the return the last, by the law of a stretch that is cut in two.
--- Assumes nothing.
 use mathlib.Core.Path.{_≡_}
 use Prim.Native.Nat.{_+_, _-_, _≤_}
 use native.Mathlib.Omega.{arith}

@@ -1,6 +1,5 @@
 -- `sequence::count_short` meets its contract. The loop's invariant: `met` is the count from `from` up to `i`. It is at most the marks
 -- passed, fewer than 255 before the last, so the byte counter never wraps. A turn adds what one mark more adds to the count.
--- Assumes nothing.
 use mathlib.Core.Path.{_≡_}
 use mathlib.Core.Logic.{⊎-elim}
 use Prim.Native.Nat.{_-_, _≤_}

@@ -1,6 +1,5 @@
 -- `sequence::find` meets its contract. The loop's invariant: the place sought is `place` marks on from what is sought in the rest,
 -- of which `left` are still to be met. It ends where none is left to meet, or no mark.
--- Assumes nothing.
 use mathlib.Core.Path.{_≡_, ap}
 use mathlib.Core.Logic.{⊎-elim}
 use Prim.Native.Nat.{_+_, _-_, _≤_}

@@ -1,5 +1,4 @@
 -- `sequence::rank_at` meets its contract: a rank is the count from index 0.
--- Assumes nothing.
 use native.Mathlib.Nat.{sub-zero}
 use Rattle.sequence.specs.Definition1.{rank}
 use borrow.Author.Needs.{needs}

@@ -1,5 +1,4 @@
 -- `sequence_cases::all_agree` is safe and ends. The loop's invariant: `len` is at most 7.
--- Assumes nothing.
 use Prim.Native.Nat.{_-_, _≤_}
 use borrow.Author.Needs.{needs}
 use Rattle.sequence_cases.proofs.all_agree.Statement.{statement}

@@ -1,5 +1,4 @@
 -- `sequence_cases::answers_agree` is safe and ends. The loop's invariant: `symbol` is at most 4.
--- Assumes nothing.
 use Prim.Native.Nat.{_-_, _≤_}
 use borrow.Author.Needs.{needs}
 use Rattle.sequence_cases.proofs.answers_agree.Statement.{statement}

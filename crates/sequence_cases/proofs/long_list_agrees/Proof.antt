@@ -1,5 +1,4 @@
 -- `sequence_cases::long_list_agrees` is safe and ends. The loop's invariant: the array keeps its 600 marks, and `i` is at most 600.
--- Assumes nothing.
 use mathlib.Core.Path.{_≡_}
 use Prim.Native.Nat.{_-_, _≤_}
 use lib.ListN.{length}

@@ -1,5 +1,4 @@
 -- `sequence_cases::places_agree` is safe and ends. The loop's invariant: `place` is at most one past the number of marks, so that a rank is asked within the list.
--- Assumes nothing.
 use Prim.Native.Nat.{_+_, _-_, _≤_}
 use lib.ListN.{length}
 use borrow.Author.Needs.{needs}

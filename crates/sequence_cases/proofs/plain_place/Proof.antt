@@ -1,5 +1,4 @@
 -- `sequence_cases::plain_place` is safe and ends. The loop's invariant: no more are met than marks passed, so the counter never wraps.
--- Assumes nothing.
 use mathlib.Core.Logic.{⊎-elim}
 use Prim.Native.Nat.{_-_, _≤_}
 use lib.ListN.{length}

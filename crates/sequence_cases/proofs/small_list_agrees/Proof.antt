@@ -1,5 +1,4 @@
 -- `sequence_cases::small_list_agrees` is safe and ends. The loop's invariant: the array keeps its 6 marks, and `i` is at most 6. The part that is lent is as long as asked.
--- Assumes nothing.
 use mathlib.Core.Path.{_≡_, sym}
 use Prim.Native.Nat.{_-_, _≤_}
 use lib.ListN.{length}

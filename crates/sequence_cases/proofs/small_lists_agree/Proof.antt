@@ -1,5 +1,4 @@
 -- `sequence_cases::small_lists_agree` is safe and ends. The loop's invariant: `code` is at most 729.
--- Assumes nothing.
 use Prim.Native.Nat.{_-_, _≤_}
 use borrow.Author.Needs.{needs}
 use Rattle.sequence_cases.proofs.small_lists_agree.Statement.{statement}

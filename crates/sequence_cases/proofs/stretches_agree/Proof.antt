@@ -1,5 +1,4 @@
 -- `sequence_cases::stretches_agree` is safe and ends. The loop's invariant: `from` is at most `starts`.
--- Assumes nothing.
 use Prim.Native.Nat.{_-_, _≤_}
 use borrow.Author.Needs.{needs}
 use Rattle.sequence_cases.proofs.stretches_agree.Statement.{statement}

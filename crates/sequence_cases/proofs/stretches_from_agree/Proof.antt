@@ -1,5 +1,4 @@
 -- `sequence_cases::stretches_from_agree` is safe and ends. The loop's invariant: the stretch ends no earlier than it starts.
--- Assumes nothing.
 use Prim.Native.Nat.{_+_, _-_, _≤_}
 use lib.ListN.{length}
 use borrow.Author.Needs.{needs}

@@ -1,5 +1,4 @@
 -- `is_comment` meets its contract: what its callees ensure stands in the definition, test by test.
--- Assumes nothing.
 use borrow.Author.Needs.{needs}
 use Rattle.text_fixed_form.proofs.is_comment.Statement.{statement}
 use Rattle.text_fixed_form.proofs.is_comment.Tie as tie

@@ -1,5 +1,4 @@
 -- `is_continuation` meets its contract: what its callees ensure stands in the definition, test by test.
--- Assumes nothing.
 use borrow.Author.Needs.{needs}
 use Rattle.text_fixed_form.proofs.is_continuation.Statement.{statement}
 use Rattle.text_fixed_form.proofs.is_continuation.Tie as tie

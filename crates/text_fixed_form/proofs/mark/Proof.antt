@@ -1,5 +1,4 @@
 -- `mark` meets its contract: its first callee gives the card, and its second the card's mark.
--- Assumes nothing.
 use borrow.Author.Needs.{needs}
 use Rattle.text_fixed_form.specs.Mark.{markOf}
 use Rattle.text_fixed_form.proofs.mark.Statement.{statement}

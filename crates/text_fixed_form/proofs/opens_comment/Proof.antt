@@ -1,5 +1,4 @@
 -- `opens_comment` meets its contract: each way out has shown what the definition's comparisons give.
--- Assumes nothing.
 use borrow.Author.Tests.{eq-eqb, ne-eqb}
 use Rattle.text_fixed_form.proofs.opens_comment.Statement.{statement}
 use Rattle.text_fixed_form.proofs.opens_comment.Tie as tie

@@ -1,5 +1,4 @@
 -- `text_lines::accept` goes on by a byte: what waited is a byte of the line now, and the new byte waits if both tests hold, or is added.
--- Assumes nothing.
 use borrow.Author.Needs.{needs}
 use mathlib.Core.Logic.{⊎-elim}
 use Rattle.text_lines.proofs.Trims.{waits-return, rule-off, other-byte}

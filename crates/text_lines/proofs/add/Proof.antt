@@ -1,5 +1,4 @@
 -- `text_lines::add` holds one byte more: stored after the kept ones where there is room, and else only counted.
--- Assumes nothing.
 use borrow.Author.Needs.{needs}
 use Rattle.text_lines.proofs.Held.{adds-stored, adds-counted}
 use Rattle.text_lines.proofs.add.Statement.{statement}

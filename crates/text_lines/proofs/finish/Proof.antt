@@ -1,5 +1,4 @@
 -- `text_lines::finish` holds all bytes of the line: the carriage return that waits is added, and where none waits the line is held already.
--- Assumes nothing.
 use borrow.Author.Needs.{needs}
 use Rattle.text_lines.proofs.Standing.{finishes-return, finishes-plain}
 use Rattle.text_lines.proofs.finish.Statement.{statement}

@@ -1,5 +1,4 @@
 -- `text_lines::first_bytes` meets its contract: the whole of a short slice is its first bytes, and a part from the start is a `take`.
--- Assumes nothing.
 use mathlib.Core.Path.{sym}
 use borrow.Author.Needs.{needs}
 use lib.Seq.{take-all, length-take-le}

@@ -1,6 +1,5 @@
 -- `text_lines::gather` meets its contract. The invariant: no line feed is among the bytes passed, and the state has gone on by them.
 -- At a line feed and at the end this is the contract. The measure is what is left of the bytes.
--- Assumes nothing.
 use Prim.Native.Nat.{_-_}
 use lib.ListN.{length}
 use native.Mathlib.Omega.{arith}

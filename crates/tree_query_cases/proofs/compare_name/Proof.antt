@@ -1,5 +1,4 @@
 -- `tree_query_cases::compare_name` is safe: in a sound pool a name whose record isn't that of a closed one is open.
--- Assumes nothing.
 use borrow.Author.Needs.{needs}
 use Rattle.tree_query_cases.proofs.Names.{sound-open}
 use Rattle.tree_query_cases.proofs.compare_name.Statement.{statement}

@@ -1,5 +1,4 @@
 -- `tree_query_cases::compare_names` is safe and ends. The loop's invariant: `name` is at most the number of names.
--- Assumes nothing.
 use Prim.Native.Nat.{_-_, _≤_}
 use borrow.Author.Needs.{needs}
 use Rattle.geometry.specs.Limits.{names}

@@ -1,5 +1,4 @@
 -- `tree_query_cases::main` is safe: the names are compared only where the check found the pool sound.
--- Assumes nothing.
 use borrow.Author.Needs.{needs}
 use Rattle.tree_query_cases.proofs.Names.{checked-sound}
 use Rattle.tree_query_cases.proofs.main.Statement.{statement}

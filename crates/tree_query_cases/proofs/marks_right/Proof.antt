@@ -1,5 +1,4 @@
 -- `tree_query_cases::marks_right` is safe and ends. The loop's invariant: `i` is at most the number of expected marks, which the name has.
--- Assumes nothing.
 use Prim.Native.Nat.{_-_, _≤_}
 use lib.ListN.{length}
 use borrow.Author.Needs.{needs}

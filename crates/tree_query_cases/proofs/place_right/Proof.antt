@@ -1,5 +1,4 @@
 -- `tree_query_cases::place_right` is safe: a number is selected only where it is the rank at a place, and more than before it.
--- Assumes nothing.
 use native.Mathlib.Omega.{arith}
 use borrow.Author.Needs.{needs}
 use Rattle.tree_query_cases.proofs.Names.{rank-in-count}

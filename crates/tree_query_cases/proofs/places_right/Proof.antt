@@ -1,5 +1,4 @@
 -- `tree_query_cases::places_right` is safe and ends. The loop's invariant: no more are met than marks passed, so the counter never wraps.
--- Assumes nothing.
 use mathlib.Core.Logic.{⊎-elim}
 use Prim.Native.Nat.{_-_, _≤_}
 use native.Mathlib.Omega.{arith}

@@ -1,5 +1,4 @@
 -- `tree_query_cases::symbols_right` is safe and ends. The loop's invariant: `symbol` is at most the largest alphabet.
--- Assumes nothing.
 use Prim.Native.Nat.{_-_, _≤_}
 use borrow.Author.Needs.{needs}
 use Rattle.geometry.specs.Limits.{mostAlphabet}

@@ -1,5 +1,4 @@
 -- `frame_execute::changes::change` meets its contract: a code before access that nothing refuses is one of four.
--- Assumes nothing.
 use Rattle.frame_execute.proofs.Stepping.{last-change}
 use borrow.Author.Needs.{needs}
 use Rattle.frame_execute.proofs.changes.change.Statement.{statement}

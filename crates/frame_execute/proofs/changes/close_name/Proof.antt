@@ -1,5 +1,4 @@
 -- `frame_execute::changes::close_name` meets its contract: a closing that nothing refuses can be made, and is the machine's.
--- Assumes nothing.
 use Rattle.frame_execute.proofs.Stepping.{close-ready, close-steps}
 use borrow.Author.Needs.{needs}
 use Rattle.frame_execute.proofs.changes.close_name.Statement.{statement}

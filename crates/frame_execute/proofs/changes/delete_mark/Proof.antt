@@ -1,5 +1,4 @@
 -- `frame_execute::changes::delete_mark` meets its contract: a delete that nothing refuses can be made, and is the machine's.
--- Assumes nothing.
 use Rattle.frame_execute.proofs.Stepping.{delete-reads, delete-ready, delete-some, delete-steps}
 use borrow.Author.Needs.{needs}
 use Rattle.frame_execute.proofs.changes.delete_mark.Statement.{statement}

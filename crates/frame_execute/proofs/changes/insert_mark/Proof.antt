@@ -1,5 +1,4 @@
 -- `frame_execute::changes::insert_mark` meets its contract: an insert that nothing refuses can be made, and is the machine's.
--- Assumes nothing.
 use Rattle.frame_execute.proofs.Stepping.{insert-reads, insert-ready, insert-steps}
 use borrow.Author.Needs.{needs}
 use Rattle.frame_execute.proofs.changes.insert_mark.Statement.{statement}

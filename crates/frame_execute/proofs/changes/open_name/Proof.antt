@@ -1,5 +1,4 @@
 -- `frame_execute::changes::open_name` meets its contract: an opening that nothing refuses can be made, and is the machine's.
--- Assumes nothing.
 use Rattle.frame_execute.proofs.Stepping.{open-ready, open-steps}
 use borrow.Author.Needs.{needs}
 use Rattle.frame_execute.proofs.changes.open_name.Statement.{statement}

@@ -1,5 +1,4 @@
 -- `frame_status::named::insertion_status` meets its contract: one law for each status that an insert can get.
--- Assumes nothing.
 use Rattle.frame_status.proofs.Refused.{insert-symbol, insert-outside, insert-full, insert-passes}
 use borrow.Author.Needs.{needs}
 use borrow.Author.Tests.{not-true, not-false}

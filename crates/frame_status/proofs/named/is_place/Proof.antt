@@ -1,5 +1,4 @@
 -- `frame_status::named::is_place` meets its contract.
--- Assumes nothing.
 use Rattle.frame_status.proofs.Refused.{place-before, place-up-to}
 use Rattle.frame_status.proofs.named.is_place.Statement.{statement}
 use Rattle.frame_status.proofs.named.is_place.Tie as tie

@@ -1,5 +1,4 @@
 -- `frame_status::named::named_status` meets its contract: the name is closed, or the command's own tests decide.
--- Assumes nothing.
 use mathlib.Core.Logic.{inl, inr}
 use Rattle.frame_status.proofs.Refused.{naming-low, naming-closed, naming-asks, naming-passes}
 use borrow.Author.Needs.{needs}

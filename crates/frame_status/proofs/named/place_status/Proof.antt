@@ -1,5 +1,4 @@
 -- `frame_status::named::place_status` meets its contract: one law for each status that a delete or an access can get.
--- Assumes nothing.
 use Rattle.frame_status.proofs.Refused.{place-outside, place-passes}
 use borrow.Author.Needs.{needs}
 use borrow.Author.Tests.{not-true, not-false}

@@ -1,5 +1,4 @@
 -- `frame_status::named::rank_status` meets its contract: one law for each status that a rank can get.
--- Assumes nothing.
 use Rattle.frame_status.proofs.Refused.{rank-symbol, rank-outside, rank-passes}
 use borrow.Author.Needs.{needs}
 use borrow.Author.Tests.{not-true, not-false}

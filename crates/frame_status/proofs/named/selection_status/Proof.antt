@@ -1,5 +1,4 @@
 -- `frame_status::named::selection_status` meets its contract: one law for each status that a select can get.
--- Assumes nothing.
 use Rattle.frame_status.proofs.Refused.{select-symbol, select-counts, select-zero, select-past, select-passes}
 use borrow.Author.Needs.{needs}
 use Rattle.frame_status.proofs.named.selection_status.Statement.{statement}

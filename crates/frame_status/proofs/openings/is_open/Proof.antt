@@ -1,5 +1,4 @@
 -- `frame_status::openings::is_open` meets its contract: the kind of a closed name is 0.
--- Assumes nothing.
 use Rattle.frame_status.proofs.Parts.{open-by-kind}
 use borrow.Author.Needs.{needs}
 use Rattle.frame_status.proofs.openings.is_open.Statement.{statement}

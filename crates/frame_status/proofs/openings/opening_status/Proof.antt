@@ -1,5 +1,4 @@
 -- `frame_status::openings::opening_status` meets its contract: one law for each status that an opening can get.
--- Assumes nothing.
 use Rattle.frame_status.proofs.Refused.{opening-low, opening-opened, opening-small, opening-large, opening-no-shares, opening-exceeds, opening-passes}
 use borrow.Author.Needs.{needs}
 use Rattle.frame_status.proofs.openings.opening_status.Statement.{statement}

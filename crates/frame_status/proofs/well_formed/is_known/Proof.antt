@@ -1,5 +1,4 @@
 -- `frame_status::well_formed::is_known` meets its contract: the codes of the table are 1 to 9.
--- Assumes nothing.
 use Rattle.frame_status.proofs.Codes.{low-unknown, known-up-to}
 use Rattle.frame_status.proofs.well_formed.is_known.Statement.{statement}
 use Rattle.frame_status.proofs.well_formed.is_known.Tie as tie

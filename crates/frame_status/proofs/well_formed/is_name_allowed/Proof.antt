@@ -1,5 +1,4 @@
 -- `frame_status::well_formed::is_name_allowed` meets its contract, for code 09 and for any other.
--- Assumes nothing.
 use Rattle.frame_status.proofs.Forms.{allowed-unpromised, allowed-name}
 use borrow.Author.Needs.{needs}
 use Rattle.frame_status.proofs.well_formed.is_name_allowed.Statement.{statement}

@@ -1,5 +1,4 @@
 -- `frame_status::well_formed::is_unused_zero` meets its contract: the fourth byte, the symbol and the number in turn.
--- Assumes nothing.
 use Rattle.frame_status.proofs.Forms.{fourth-set, symbol-set, number-decides}
 use borrow.Author.Needs.{needs}
 use borrow.Author.Tests.{not-true, not-false}

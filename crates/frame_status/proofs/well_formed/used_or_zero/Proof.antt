@@ -1,5 +1,4 @@
 -- `frame_status::well_formed::used_or_zero` meets its contract.
--- Assumes nothing.
 use Rattle.frame_status.proofs.Forms.{unused-decides}
 use borrow.Author.Needs.{needs}
 use Rattle.frame_status.proofs.well_formed.used_or_zero.Statement.{statement}

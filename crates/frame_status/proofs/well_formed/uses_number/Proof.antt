@@ -1,5 +1,4 @@
 -- `frame_status::well_formed::uses_number` meets its contract: the table says so of these codes and of no others.
--- Assumes nothing.
 use Rattle.frame_status.proofs.Codes.{number-used, number-unused, number-used-up-to}
 use Rattle.frame_status.proofs.well_formed.uses_number.Statement.{statement}
 use Rattle.frame_status.proofs.well_formed.uses_number.Tie as tie

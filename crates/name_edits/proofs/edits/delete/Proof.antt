@@ -1,5 +1,4 @@
 -- `name_edits::edits::delete` meets its contract: the tree is without the mark, and the record says so.
--- Assumes nothing.
 use Rattle.name_edits.proofs.NameEdits.{delete-in-ready, delete-length, delete-storable, deleted-at}
 use borrow.Author.Needs.{needs}
 use Rattle.name_edits.proofs.edits.delete.Statement.{statement}

@@ -1,5 +1,4 @@
 -- `name_edits::edits::insert` meets its contract: the tree has the mark, and the record says so.
--- Assumes nothing.
 use native.Mathlib.Omega.{arith}
 use Rattle.name_edits.proofs.NameEdits.{insert-in-ready, insert-length, insert-storable, inserted-at}
 use borrow.Author.Needs.{needs}

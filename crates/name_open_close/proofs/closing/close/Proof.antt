@@ -1,5 +1,4 @@
 -- `name_open_close::closing::close` meets its contract: the record is a closed name's, and the name's blocks are free.
--- Assumes nothing.
 use Rattle.name_open_close.proofs.ClosedNames.{closed-updated}
 use borrow.Author.Needs.{needs}
 use Rattle.name_open_close.proofs.closing.close.Statement.{statement}

@@ -1,10 +1,9 @@
 -- `name_open_close::closing::free_holder` meets its contract. The loop's invariant: the holder's blocks that were passed are free.
--- Assumes nothing.
 use borrow.Author.Needs.{needs}
 use mathlib.Core.Logic.{⊎-elim}
 use Prim.Native.Nat.{_-_}
 use lib.ListN.{length}
-use Rattle.name_open_close.proofs.HoldersFreed.{FreedBelow, freed-none, freed-one, freed-other, freed-all}
+use Rattle.name_open_close.proofs.HoldersFreed.{FreedBelow, freed-below-none, freed-one, freed-other, freed-all}
 use Rattle.name_open_close.proofs.closing.free_holder.Statement.{statement}
 use Rattle.name_open_close.proofs.closing.free_holder.Tie as tie
 
@@ -15,7 +14,7 @@ abbrev μ-loop : tie.MeasureT-loop
 μ-loop map₀ holder b₀ map b = length map₀ - b
 
 loop-holds : tie.Need-loop-holds Inv-loop μ-loop
-loop-holds c = search freed-none
+loop-holds c = search freed-below-none
 
 slice-read-if1 : tie.Need-slice-read-if1 Inv-loop μ-loop
 slice-read-if1 c = search needs

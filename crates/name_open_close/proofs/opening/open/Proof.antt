@@ -1,5 +1,4 @@
 -- `name_open_close::opening::open` meets its contract: the block taken is the name's root.
--- Assumes nothing.
 use Rattle.name_open_close.proofs.OpenedNames.{block-there, opened-updated}
 use borrow.Author.Needs.{needs}
 use Rattle.name_open_close.proofs.opening.open.Statement.{statement}

@@ -1,5 +1,4 @@
 -- `pool::bytes::move_up` meets its contract: two copies, the second of what the first set aside.
--- Assumes nothing.
 use borrow.Author.Needs.{needs}
 use Rattle.pool.proofs.Moves.{moved-aside}
 use Rattle.pool.proofs.bytes.move_up.Statement.{statement}

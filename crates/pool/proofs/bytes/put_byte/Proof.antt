@@ -1,5 +1,4 @@
 -- `pool::bytes::put_byte` meets its contract, by the law of one store.
--- Assumes nothing.
 use borrow.Author.Needs.{needs}
 use Rattle.pool.proofs.Moves.{put-one}
 use Rattle.pool.proofs.bytes.put_byte.Statement.{statement}

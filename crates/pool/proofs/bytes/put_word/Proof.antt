@@ -1,5 +1,4 @@
 -- `pool::bytes::put_word` meets its contract: its two stores make the word.
--- Assumes nothing.
 use borrow.Author.Needs.{needs}
 use Rattle.pool.proofs.Moves.{put-two}
 use Rattle.pool.proofs.bytes.put_word.Statement.{statement}

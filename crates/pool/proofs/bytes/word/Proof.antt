@@ -1,5 +1,4 @@
 -- `pool::bytes::word` meets its contract, by the law of the two bytes that make a word.
--- Assumes nothing.
 use borrow.Author.Needs.{needs}
 use Rattle.pool.proofs.Words.{word-of-bytes}
 use Rattle.pool.proofs.bytes.word.Statement.{statement}

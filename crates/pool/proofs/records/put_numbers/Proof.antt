@@ -1,5 +1,4 @@
 -- `pool::records::put_numbers` meets its contract, by the law of its three stores.
--- Assumes nothing.
 use borrow.Author.Needs.{needs}
 use Rattle.pool.proofs.Written.{numbers-put}
 use Rattle.pool.proofs.records.put_numbers.Statement.{statement}

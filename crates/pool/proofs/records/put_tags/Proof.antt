@@ -1,5 +1,4 @@
 -- `pool::records::put_tags` meets its contract, by the law of its four stores.
--- Assumes nothing.
 use borrow.Author.Needs.{needs}
 use Rattle.pool.proofs.Written.{tags-put}
 use Rattle.pool.proofs.records.put_tags.Statement.{statement}

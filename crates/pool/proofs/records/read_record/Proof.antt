@@ -1,5 +1,4 @@
 -- `pool::records::read_record` meets its contract, field by field.
--- Assumes nothing.
 use borrow.Author.Needs.{needs}
 use Rattle.pool.proofs.Written.{record-read}
 use Rattle.pool.proofs.records.read_record.Statement.{statement}

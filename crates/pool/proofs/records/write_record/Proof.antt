@@ -1,5 +1,4 @@
 -- `pool::records::write_record` meets its contract: its three parts are all bytes of the record.
--- Assumes nothing.
 use borrow.Author.Needs.{needs}
 use Rattle.pool.proofs.Written.{record-put}
 use Rattle.pool.proofs.records.write_record.Statement.{statement}

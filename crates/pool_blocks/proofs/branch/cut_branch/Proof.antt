@@ -1,5 +1,4 @@
 -- `pool_blocks::branch::cut_branch` meets its contract, by the law of entries cut off.
--- Assumes nothing.
 use borrow.Author.Needs.{needs}
 use Rattle.pool_blocks.proofs.Branches.{branch-cut}
 use Rattle.pool_blocks.proofs.branch.cut_branch.Statement.{statement}

@@ -1,5 +1,4 @@
 -- `pool_blocks::branch::join_branches` meets its contract, by the law of entries joined.
--- Assumes nothing.
 use borrow.Author.Needs.{needs}
 use Rattle.pool_blocks.proofs.Branches.{branches-joined}
 use Rattle.pool_blocks.proofs.branch.join_branches.Statement.{statement}

@@ -1,5 +1,4 @@
 -- `pool_blocks::branch::open_entry` meets its contract, by the law of a gap.
--- Assumes nothing.
 use borrow.Author.Needs.{needs}
 use Rattle.pool_blocks.proofs.Branches.{entry-opened}
 use Rattle.pool_blocks.proofs.branch.open_entry.Statement.{statement}

@@ -1,5 +1,4 @@
 -- `pool_blocks::branch::remove_entry` meets its contract, by the law of a gap closed.
--- Assumes nothing.
 use borrow.Author.Needs.{needs}
 use Rattle.pool_blocks.proofs.Branches.{entry-removed}
 use Rattle.pool_blocks.proofs.branch.remove_entry.Statement.{statement}

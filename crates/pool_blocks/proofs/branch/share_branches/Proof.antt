@@ -1,5 +1,4 @@
 -- `pool_blocks::branch::share_branches` meets its contract, by the law of entries cut anew.
--- Assumes nothing.
 use borrow.Author.Needs.{needs}
 use Rattle.pool_blocks.proofs.Branches.{branches-shared}
 use Rattle.pool_blocks.proofs.branch.share_branches.Statement.{statement}

@@ -1,6 +1,5 @@
 -- `pool_blocks::leaf::count_marks` meets its contract. The loop's invariant: `left` is the places from `k` on, and `met` the c among the first i of
 -- those before it. A place counts where more are left than stand behind the i-th.
--- Assumes nothing.
 use borrow.Author.Needs.{needs}
 use mathlib.Core.Logic.{⊎-elim}
 use mathlib.Core.Path.{_≡_, _∙_}

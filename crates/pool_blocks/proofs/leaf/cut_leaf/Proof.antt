@@ -1,5 +1,4 @@
 -- `pool_blocks::leaf::cut_leaf` meets its contract, by the law of entries cut off.
--- Assumes nothing.
 use native.Mathlib.Omega.{arith}
 use borrow.Author.Needs.{needs}
 use Rattle.pool_blocks.proofs.Leaves.{leaf-size, leaf-cut}

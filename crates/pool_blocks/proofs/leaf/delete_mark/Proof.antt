@@ -1,5 +1,4 @@
 -- `pool_blocks::leaf::delete_mark` meets its contract: the mark is read, and its byte closed.
--- Assumes nothing.
 use native.Mathlib.Omega.{arith}
 use borrow.Author.Needs.{needs}
 use Rattle.pool_blocks.proofs.Leaves.{leaf-size, mark-deleted}

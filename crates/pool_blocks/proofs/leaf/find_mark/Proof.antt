@@ -1,6 +1,5 @@
 -- `pool_blocks::leaf::find_mark` meets its contract: the part of the pool that is searched is the leaf. The loop's invariant: the place sought is
 -- `start - at` marks on from what is sought in the rest, of which `left` are still to be met.
--- Assumes nothing.
 use borrow.Author.Needs.{needs}
 use Prim.Native.Nat.{_+_, _-_, _≤_}
 use native.Mathlib.Omega.{arith}

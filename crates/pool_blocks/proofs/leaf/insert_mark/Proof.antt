@@ -1,5 +1,4 @@
 -- `pool_blocks::leaf::insert_mark` meets its contract: a gap of one byte, and the mark in it.
--- Assumes nothing.
 use native.Mathlib.Omega.{arith}
 use borrow.Author.Needs.{needs}
 use Rattle.pool_blocks.proofs.Leaves.{leaf-size, mark-inserted}

@@ -1,5 +1,4 @@
 -- `pool_blocks::leaf::join_leaves` meets its contract, by the law of entries joined.
--- Assumes nothing.
 use native.Mathlib.Omega.{arith}
 use borrow.Author.Needs.{needs}
 use Rattle.pool_blocks.proofs.Leaves.{leaf-size, leaves-joined}

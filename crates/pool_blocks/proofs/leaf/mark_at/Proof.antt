@@ -1,5 +1,4 @@
 -- `pool_blocks::leaf::mark_at` meets its contract: place i is byte i - 1 of the block.
--- Assumes nothing.
 use native.Mathlib.Omega.{arith}
 use borrow.Author.Needs.{needs}
 use Rattle.pool_blocks.proofs.Leaves.{leaf-size, mark-is}

@@ -1,5 +1,4 @@
 -- `pool_blocks::leaf::share_leaves` meets its contract, by the law of entries cut anew.
--- Assumes nothing.
 use borrow.Author.Needs.{needs}
 use Rattle.pool_blocks.proofs.Leaves.{leaves-shared}
 use Rattle.pool_blocks.proofs.leaf.share_leaves.Statement.{statement}

@@ -1,5 +1,4 @@
 -- `pool_blocks::leaf::size` meets its contract: a leaf has as many marks as its block says.
--- Assumes nothing.
 use borrow.Author.Needs.{needs}
 use Rattle.pool_blocks.proofs.Leaves.{size-is}
 use Rattle.pool_blocks.proofs.leaf.size.Statement.{statement}

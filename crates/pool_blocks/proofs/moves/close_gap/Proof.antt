@@ -1,5 +1,4 @@
 -- `pool_blocks::moves::close_gap` meets its contract: one move and the new count close the gap.
--- Assumes nothing.
 use Prim.Native.Nat.{_+_}
 use native.Mathlib.Omega.{arith}
 use borrow.Author.Needs.{needs}

@@ -1,5 +1,4 @@
 -- `pool_blocks::moves::cut_off` meets its contract: one move, the count that is left, and the new block's trailer.
--- Assumes nothing.
 use native.Mathlib.Omega.{arith}
 use borrow.Author.Needs.{needs}
 use Rattle.pool_blocks.proofs.Products.{Measured, measured}

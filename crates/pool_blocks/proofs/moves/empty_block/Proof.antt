@@ -1,5 +1,4 @@
 -- `pool_blocks::moves::empty_block` meets its contract: a trailer that says none is written, and it lies in the block.
--- Assumes nothing.
 use borrow.Author.Needs.{needs}
 use Rattle.pool_blocks.proofs.Parts.{emptied}
 use Rattle.pool_blocks.proofs.moves.empty_block.Statement.{statement}

@@ -1,5 +1,4 @@
 -- `pool_blocks::moves::fill_right` meets its contract: two moves and both counts cut the entries anew.
--- Assumes nothing.
 use native.Mathlib.Omega.{arith}
 use borrow.Author.Needs.{needs}
 use Rattle.pool_blocks.proofs.Shares.{RightFits, right-fits, right-filled}

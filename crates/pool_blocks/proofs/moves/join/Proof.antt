@@ -1,5 +1,4 @@
 -- `pool_blocks::moves::join` meets its contract: one move and the new count join the entries.
--- Assumes nothing.
 use Prim.Native.Nat.{_+_}
 use native.Mathlib.Omega.{arith}
 use borrow.Author.Needs.{needs}

@@ -1,5 +1,4 @@
 -- `pool_blocks::moves::open_gap` meets its contract: one move and the new count make the gap.
--- Assumes nothing.
 use Prim.Native.Nat.{_+_}
 use native.Mathlib.Omega.{arith}
 use borrow.Author.Needs.{needs}

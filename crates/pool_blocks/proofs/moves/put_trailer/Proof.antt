@@ -1,5 +1,4 @@
 -- `pool_blocks::moves::put_trailer` meets its contract: its two stores make the trailer.
--- Assumes nothing.
 use borrow.Author.Needs.{needs}
 use Rattle.pool_blocks.proofs.Parts.{trailer-put}
 use Rattle.pool_blocks.proofs.moves.put_trailer.Statement.{statement}

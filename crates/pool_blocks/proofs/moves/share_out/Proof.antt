@@ -1,5 +1,4 @@
 -- `pool_blocks::moves::share_out` meets its contract: whichever block gets more, the entries are cut at half.
--- Assumes nothing.
 use native.Mathlib.Omega.{arith}
 use borrow.Author.Needs.{needs}
 use Rattle.pool_blocks.proofs.Products.{room-fewer}

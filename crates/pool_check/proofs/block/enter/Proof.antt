@@ -1,5 +1,4 @@
 -- `pool_check::block::enter` meets its contract: one law for each test that refuses a block, and one for a block that passes them all.
--- Assumes nothing.
 use borrow.Author.Needs.{needs}
 use Rattle.pool_check.proofs.Entering.{outside, met-before, other-form, too-few, too-many, entered}
 use Rattle.pool_check.proofs.block.enter.Statement.{statement}

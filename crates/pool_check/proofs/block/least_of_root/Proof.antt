@@ -1,5 +1,4 @@
 -- `pool_check::block::least_of_root` meets its contract, at level 0 and above it.
--- Assumes nothing.
 use Rattle.pool_check.proofs.Levels.{root-leaf, root-branch}
 use Rattle.pool_check.proofs.block.least_of_root.Statement.{statement}
 use Rattle.pool_check.proofs.block.least_of_root.Tie as tie

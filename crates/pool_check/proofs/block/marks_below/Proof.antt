@@ -1,5 +1,4 @@
 -- `pool_check::block::marks_below` meets its contract. The loop's invariant: the marks passed are below the alphabet's size.
--- Assumes nothing.
 use borrow.Author.Needs.{needs}
 use Prim.Native.Nat.{_-_, _≤_}
 use Rattle.pool_check.proofs.Leaves.{BelowTo, below-start, below-next, below-all, below-not}

@@ -1,5 +1,4 @@
 -- `pool_check::block::root_fits` meets its contract, for a root that is a leaf and for one that isn't.
--- Assumes nothing.
 use borrow.Author.Needs.{needs}
 use Rattle.pool_check.proofs.Leaves.{branch-fit, leaf-fit, leaf-few}
 use Rattle.pool_check.proofs.block.root_fits.Statement.{statement}

@@ -1,5 +1,4 @@
 -- `pool_check::directory::all_zero` meets its contract. The loop's invariant: `clean` says exactly whether the bytes passed are 0.
--- Assumes nothing.
 use borrow.Author.Needs.{needs}
 use mathlib.Core.Logic.{⊎-elim}
 use Prim.Native.Nat.{_+_, _-_, _≤_}

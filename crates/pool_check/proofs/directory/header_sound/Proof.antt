@@ -1,5 +1,4 @@
 -- `pool_check::directory::header_sound` meets its contract, by its first byte and the zeros behind it.
--- Assumes nothing.
 use borrow.Author.Needs.{needs}
 use Rattle.pool_check.proofs.Stretches.{other-layout, same-layout}
 use Rattle.pool_check.proofs.directory.header_sound.Statement.{statement}

@@ -1,5 +1,4 @@
 -- `pool_check::names::check_name` meets its contract, for a closed name and for an open one.
--- Assumes nothing.
 use borrow.Author.Needs.{needs}
 use Rattle.pool_check.proofs.Naming.{closed-walked, open-walked}
 use Rattle.pool_check.proofs.names.check_name.Statement.{statement}

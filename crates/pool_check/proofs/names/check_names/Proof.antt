@@ -1,5 +1,4 @@
 -- `pool_check::names::check_names` meets its contract. The loop's invariant: the names passed were walked in turn.
--- Assumes nothing.
 use borrow.Author.Needs.{needs}
 use borrow.Author.Tests.{not-true, not-false}
 use mathlib.Core.Bool.{true}

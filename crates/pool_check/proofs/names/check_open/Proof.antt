@@ -1,5 +1,4 @@
 -- `pool_check::names::check_open` meets its contract: refused by its record, by its tree, by the marks of a root that is a leaf, or by its length alone.
--- Assumes nothing.
 use borrow.Author.Needs.{needs}
 use borrow.Author.Tests.{not-true, not-false}
 use Rattle.pool_check.proofs.Walks.{walk-found}

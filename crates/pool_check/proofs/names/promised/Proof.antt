@@ -1,6 +1,5 @@
 use borrow.Author.Needs.{needs}
 -- `pool_check::names::promised` meets its contract. The loop's invariant: `sum` is what the names passed are promised, each of which fits a word.
--- Assumes nothing.
 use mathlib.Core.Path.{_≡_}
 use Prim.Native.Nat.{_-_, _*_, _≤_}
 use Rattle.pool_entries.proofs.Totals.{sum-none}

@@ -1,5 +1,4 @@
 -- `pool_check::names::record_sound` meets its contract: one law for each test that refuses a record, and one for a record that passes all but the last.
--- Assumes nothing.
 use borrow.Author.Needs.{needs}
 use Rattle.pool_check.proofs.Records.{other-kind, small-alphabet, large-alphabet, no-promise, too-high, no-room, zero-set, record-passed}
 use Rattle.pool_check.proofs.names.record_sound.Statement.{statement}

@@ -1,5 +1,4 @@
 -- `pool_check::summaries::all_claimed` meets its contract. The loop's invariant: `sum` is what the claims passed add up to.
--- Assumes nothing.
 use borrow.Author.Needs.{needs}
 use mathlib.Core.Path.{_≡_}
 use Prim.Native.Nat.{_-_, _*_, _≤_}

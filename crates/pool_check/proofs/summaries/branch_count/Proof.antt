@@ -1,5 +1,4 @@
 -- `pool_check::summaries::branch_count` meets its contract, for two entries and for three.
--- Assumes nothing.
 use borrow.Author.Needs.{needs}
 use Rattle.pool_check.proofs.Repeating.{count-two, count-three}
 use Rattle.pool_check.proofs.summaries.branch_count.Statement.{statement}

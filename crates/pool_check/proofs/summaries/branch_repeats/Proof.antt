@@ -1,6 +1,5 @@
 -- `pool_check::summaries::branch_repeats` meets its contract. The loop's invariant: `same` says exactly whether the entry is right as to the marks and
 -- the symbols passed.
--- Assumes nothing.
 use borrow.Author.Needs.{needs}
 use mathlib.Core.Logic.{⊎-elim}
 use Prim.Native.Nat.{_-_, _≤_}

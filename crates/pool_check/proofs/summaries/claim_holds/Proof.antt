@@ -1,5 +1,4 @@
 -- `pool_check::summaries::claim_holds` meets its contract: nothing told, a symbol past the alphabet, or a count.
--- Assumes nothing.
 use Rattle.pool_check.proofs.Claims.{claim-none, claim-over, claim-counted}
 use borrow.Author.Needs.{needs}
 use Rattle.pool_check.proofs.summaries.claim_holds.Statement.{statement}

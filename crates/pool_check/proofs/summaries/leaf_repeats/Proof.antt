@@ -1,6 +1,5 @@
 -- `pool_check::summaries::leaf_repeats` meets its contract. The claims add up to the leaf's size. The loop's invariant: the claims passed hold, and `left` is
 -- what the others add up to. While something is left there are symbols left; then the other claims are 0.
--- Assumes nothing.
 use borrow.Author.Needs.{needs}
 use borrow.Author.Tests.{not-true, not-false}
 use mathlib.Core.Path.{_≡_}

@@ -1,5 +1,4 @@
 -- `pool_check::summaries::own_marks` meets its contract. The loop's invariant: `sum` is the sum of the entries passed, each of which fits a word.
--- Assumes nothing.
 use borrow.Author.Needs.{needs}
 use mathlib.Core.Path.{_≡_}
 use Prim.Native.Nat.{_-_, _*_, _≤_}

@@ -1,5 +1,4 @@
 -- `pool_check::summaries::padded` meets its contract. The loop's invariant: `left` is the places from `i` on, and those before it are filled.
--- Assumes nothing.
 use borrow.Author.Needs.{needs}
 use mathlib.Core.Logic.{⊎-elim}
 use mathlib.Core.Path.{_≡_}

@@ -1,5 +1,4 @@
 -- `pool_check::summaries::repeats` meets its contract, at level 0 by a leaf's claims and above by a branch's entries.
--- Assumes nothing.
 use borrow.Author.Needs.{needs}
 use Rattle.pool_entries.proofs.Summaries.{leaf-size, branch-size}
 use Rattle.pool_check.proofs.Repeating.{branch-enough, match-leaf, match-branch}

@@ -1,6 +1,5 @@
 -- The cycle of `pool_check::walk::check_block` and `pool_check::walk::check_children`. Levels left and children left fall: a branch has at most three
 -- children, so 5 for each level leaves room for those in between. Each return is one law of the walk.
--- Assumes nothing.
 use borrow.Author.Needs.{needs}
 use borrow.Author.Tests.{not-true, not-false}
 use Rattle.pool_check.proofs.Walking.{children-below, block-below, fewer-children, block-inside, branch-fits, block-refused, leaf-walked, branch-walked, no-children, child-refused, entry-refused, children-walked}

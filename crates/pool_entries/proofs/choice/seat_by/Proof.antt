@@ -1,5 +1,4 @@
 -- `pool_entries::choice::seat_by` meets its contract: the laws of the choice at each end of the tests, where the limit is both words' sum or i itself.
--- Assumes nothing.
 use borrow.Author.Needs.{needs}
 use mathlib.Core.Path.{_≡_}
 use mathlib.Core.Logic.{⊎-elim}

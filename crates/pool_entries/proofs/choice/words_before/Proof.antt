@@ -1,5 +1,4 @@
 -- `pool_entries::choice::words_before` meets its contract: what stands before each of three children.
--- Assumes nothing.
 use borrow.Author.Needs.{needs}
 use mathlib.Core.Logic.{⊎-elim}
 use mathlib.Core.Path.{_≡_, _∙_}

@@ -1,5 +1,4 @@
 -- `pool_entries::sizes::least_entries` meets its contract, at level 0 and above it.
--- Assumes nothing.
 use Rattle.pool_entries.proofs.Levels.{least-leaf, least-branch}
 use Rattle.pool_entries.proofs.sizes.least_entries.Statement.{statement}
 use Rattle.pool_entries.proofs.sizes.least_entries.Tie as tie

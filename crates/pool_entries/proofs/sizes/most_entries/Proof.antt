@@ -1,5 +1,4 @@
 -- `pool_entries::sizes::most_entries` meets its contract, at level 0 and above it.
--- Assumes nothing.
 use Rattle.pool_entries.proofs.Levels.{most-leaf, most-branch}
 use Rattle.pool_entries.proofs.sizes.most_entries.Statement.{statement}
 use Rattle.pool_entries.proofs.sizes.most_entries.Tie as tie

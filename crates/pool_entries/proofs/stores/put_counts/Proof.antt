@@ -1,5 +1,4 @@
 -- `pool_entries::stores::put_counts` meets its contract. The loop's invariant: the counts of the symbols passed are put.
--- Assumes nothing.
 use borrow.Author.Needs.{needs}
 use Prim.Native.Nat.{_+_, _-_, _*_, _≤_}
 use mir.Syntax.{w16}

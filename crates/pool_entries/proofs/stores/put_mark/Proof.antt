@@ -1,5 +1,4 @@
 -- `pool_entries::stores::put_mark` meets its contract, by the law of its two stores.
--- Assumes nothing.
 use borrow.Author.Needs.{needs}
 use Rattle.pool_entries.proofs.Written.{mark-put}
 use Rattle.pool_entries.proofs.stores.put_mark.Statement.{statement}

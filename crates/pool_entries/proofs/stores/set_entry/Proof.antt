@@ -1,5 +1,4 @@
 -- `pool_entries::stores::set_entry` meets its contract: link, marks and counts make the entry.
--- Assumes nothing.
 use borrow.Author.Needs.{needs}
 use Rattle.pool_entries.proofs.Written.{entry-put}
 use Rattle.pool_entries.proofs.stores.set_entry.Statement.{statement}

@@ -1,5 +1,4 @@
 -- `pool_entries::sums::sum_of_words` meets its contract. The loop's invariant: `sum` is the sum of the words passed, each of which fits a word.
--- Assumes nothing.
 use borrow.Author.Needs.{needs}
 use mathlib.Core.Path.{_≡_}
 use Prim.Native.Nat.{_-_, _*_, _≤_}

@@ -1,5 +1,4 @@
 -- `pool_entries::sums::summary_of` meets its contract, at level 0 by a leaf's summary and above by a branch's.
--- Assumes nothing.
 use Rattle.pool_entries.proofs.Summaries.{leaf-size, leaf-level, branch-size, branch-small, branch-level}
 use Rattle.pool_entries.proofs.sums.summary_of.Statement.{statement}
 use Rattle.pool_entries.proofs.sums.summary_of.Tie as tie

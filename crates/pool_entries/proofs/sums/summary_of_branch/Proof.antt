@@ -1,18 +1,17 @@
 -- `pool_entries::sums::summary_of_branch` meets its contract. The loop's invariant: the counts of the symbols passed are filled in.
--- Assumes nothing.
 use borrow.Author.Needs.{needs}
 use mathlib.Core.Path.{_≡_}
 use Prim.Native.Nat.{_-_, _<_}
 use native.Mathlib.Omega.{arith}
 use Rattle.geometry.specs.Limits.{mostAlphabet}
 use Rattle.pool.specs.Trees.{ownCount}
-use Rattle.pool_entries.proofs.Filling.{Filled, fill-none, fill-more}
+use Rattle.pool_entries.proofs.Filling.{CountsFilled, fill-none, fill-more}
 use Rattle.pool_entries.proofs.Summaries.{branch-marks, branch-count, marks-fit, count-fits, summary-full}
 use Rattle.pool_entries.proofs.sums.summary_of_branch.Statement.{statement}
 use Rattle.pool_entries.proofs.sums.summary_of_branch.Tie as tie
 
 abbrev Inv-loop : tie.InvT-loop
-Inv-loop pool b many marks counts₀ c₀ counts c = Filled (ownCount pool 1 b) c counts
+Inv-loop pool b many marks counts₀ c₀ counts c = CountsFilled (ownCount pool 1 b) c counts
 
 abbrev μ-loop : tie.MeasureT-loop
 μ-loop pool b many marks counts₀ c₀ counts c = mostAlphabet - c

@@ -1,18 +1,17 @@
 -- `pool_entries::sums::summary_of_leaf` meets its contract. The loop's invariant: the counts of the symbols passed are filled in.
--- Assumes nothing.
 use borrow.Author.Needs.{needs}
 use mathlib.Core.Path.{_≡_}
 use Prim.Native.Nat.{_-_, _<_}
 use native.Mathlib.Omega.{arith}
 use Rattle.geometry.specs.Limits.{mostAlphabet}
 use Rattle.pool.specs.Trees.{ownCount}
-use Rattle.pool_entries.proofs.Filling.{Filled, fill-none, fill-more}
+use Rattle.pool_entries.proofs.Filling.{CountsFilled, fill-none, fill-more}
 use Rattle.pool_entries.proofs.Summaries.{leaf-count, leaf-small, count-fits, summary-full}
 use Rattle.pool_entries.proofs.sums.summary_of_leaf.Statement.{statement}
 use Rattle.pool_entries.proofs.sums.summary_of_leaf.Tie as tie
 
 abbrev Inv-loop : tie.InvT-loop
-Inv-loop pool b many at counts₀ symbol₀ counts symbol = Filled (ownCount pool 0 b) symbol counts
+Inv-loop pool b many at counts₀ symbol₀ counts symbol = CountsFilled (ownCount pool 0 b) symbol counts
 
 abbrev μ-loop : tie.MeasureT-loop
 μ-loop pool b many at counts₀ symbol₀ counts symbol = mostAlphabet - symbol

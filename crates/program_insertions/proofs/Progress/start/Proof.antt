@@ -1,6 +1,5 @@
 -- `program_insertions::Progress::start` meets its contract: no byte stands for no line.
--- Assumes nothing.
-use Rattle.program_insertions.proofs.Steps.{starts}
+use Rattle.program_insertions.proofs.Steps.{file-starts}
 use borrow.Author.Needs.{needs}
 use Rattle.program_insertions.proofs.Progress.start.Statement.{statement}
 use Rattle.program_insertions.proofs.Progress.start.Tie as tie
@@ -9,7 +8,7 @@ start-requires : tie.Need-start-requires
 start-requires c κs = search needs
 
 returns : tie.Need-returns
-returns c = starts (c .start .result) (c .start .ensures)
+returns c = file-starts (c .start .result) (c .start .ensures)
 
 pub start-spec : {M : Type 1} → statement M
 start-spec = tie.close (tie.spec start-requires returns)

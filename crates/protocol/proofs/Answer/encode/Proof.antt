@@ -1,5 +1,4 @@
 -- `protocol::Answer::encode` meets its contract: eight stores from `at` on put the eight bytes there, and no store changes the length.
--- Assumes nothing.
 use native.Mathlib.Omega.{arith}
 use borrow.Author.Needs.{needs}
 use lib.ListN.{length-set}

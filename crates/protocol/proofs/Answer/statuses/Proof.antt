@@ -1,5 +1,4 @@
 -- `protocol::Answer::statuses` meets its contract: the table's statuses are computed.
--- Assumes nothing.
 use mathlib.Core.Path.{refl}
 use Rattle.protocol.specs.Refusals.{refusals}
 use Rattle.protocol.proofs.Answer.statuses.Statement.{statement}

@@ -1,5 +1,4 @@
 -- `protocol::Command::codes` meets its contract: the table's codes are computed.
--- Assumes nothing.
 use mathlib.Core.Path.{refl}
 use Rattle.protocol.specs.Commands.{rows}
 use Rattle.protocol.proofs.Command.codes.Statement.{statement}

@@ -1,5 +1,4 @@
 -- `protocol::Command::decode` meets its contract: each field is read where the eight bytes from `at` on have it.
--- Assumes nothing.
 use borrow.Author.Needs.{needs}
 use Rattle.protocol.proofs.Bytes.{command-at}
 use Rattle.protocol.proofs.Command.decode.Statement.{statement}

@@ -1,5 +1,5 @@
 -- `all_blank` meets its contract. The loop's invariant: the columns that are left, from `i` on, decide the answer.
--- The measure is their number. Assumes nothing.
+-- The measure is their number.
 use borrow.Author.Needs.{needs}
 use mathlib.Core.Path.{_≡_, refl, sym, _∙_}
 use Prim.Native.Nat.{_≤_, _-_}

@@ -1,5 +1,5 @@
 -- `any_outside` meets its contract. The loop's invariant: what was found, or the columns that are left, from `i` on, decide the answer.
--- The measure is their number. Assumes nothing.
+-- The measure is their number.
 use borrow.Author.Needs.{needs}
 use mathlib.Core.Bool.{_||_}
 use mathlib.Core.Logic.{⊎-elim}

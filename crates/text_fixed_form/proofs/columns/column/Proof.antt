@@ -1,5 +1,4 @@
 -- `column` meets its contract: a missing column has the default, a blank, and one that is there doesn't depend on the default.
--- Assumes nothing.
 use borrow.Author.Needs.{needs}
 use mathlib.Core.Path.{sym}
 use Prim.Native.Nat.{_-_}

@@ -1,5 +1,4 @@
 -- `columns_after` meets its contract: a part up to the end is a `drop`, and of a short line nothing is left.
--- Assumes nothing.
 use borrow.Author.Needs.{needs}
 use lib.ListN.{drop-of-length-le}
 use lib.Seq.{drop-length}

@@ -1,5 +1,4 @@
 -- `is_outside` meets its contract: each way out has shown what the two comparisons of the definition give.
--- Assumes nothing.
 use borrow.Author.Tests.{lt-ltb, le-ltb}
 use Rattle.text_fixed_form.proofs.columns.is_outside.Statement.{statement}
 use Rattle.text_fixed_form.proofs.columns.is_outside.Tie as tie

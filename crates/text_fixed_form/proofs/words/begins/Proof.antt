@@ -1,5 +1,5 @@
 -- `begins` meets its contract. The loop's invariant: the letters that are left of the word, compared with the columns that are left
--- of the line, decide the answer. The measure is the number of those columns. Assumes nothing.
+-- of the line, decide the answer. The measure is the number of those columns.
 use borrow.Author.Needs.{needs}
 use mathlib.Core.Logic.{⊎-elim}
 use mathlib.Core.Path.{_≡_, refl, sym, _∙_}

@@ -1,5 +1,4 @@
 -- `upper_case` meets its contract: each way out has shown what the two comparisons of the definition give.
--- Assumes nothing.
 use borrow.Author.Needs.{needs}
 use borrow.Author.Tests.{le-leb, lt-leb}
 use Rattle.text_fixed_form.proofs.words.upper_case.Statement.{statement}

@@ -1,5 +1,4 @@
 -- `text_hex::digit::last_digit` meets its contract: the table is computed to be the list of the rule's values at all sixteen digits.
--- Assumes nothing.
 use Prim.Native.Nat.{_%_}
 use borrow.Author.Needs.{needs}
 use Rattle.text_hex.specs.Digits.{digitOf}

@@ -1,5 +1,4 @@
 -- `text_hex::digit::value` meets its contract: the table is computed to be the list of the rule's values at all 256 bytes.
--- Assumes nothing.
 use borrow.Author.Needs.{needs}
 use Rattle.text_hex.specs.Digits.{valueOf}
 use Rattle.text_hex.proofs.Rules.{values-at}

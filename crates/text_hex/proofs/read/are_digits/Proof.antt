@@ -1,5 +1,4 @@
 -- `text_hex::read::are_digits` meets its contract. The loop's invariant: whether the bytes from i on are digits decides the whole.
--- Assumes nothing.
 use mathlib.Core.Path.{_≡_}
 use Prim.Native.Nat.{_-_, _≤_}
 use borrow.Author.Needs.{needs}

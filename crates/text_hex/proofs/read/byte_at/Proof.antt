@@ -1,12 +1,11 @@
 -- `text_hex::read::byte_at` meets its contract: the part of the line that it reads is the two digits, whose number is below 256.
--- Assumes nothing.
 use mathlib.Core.Path.{_≡_, ap, _∙_}
 use mathlib.Core.List.{List}
 use Prim.Native.Nat.{ℕ, _+_, _-_, _≤_}
 use native.Mathlib.Omega.{arith}
 use borrow.Author.Needs.{needs}
 use lib.ListN.{length, take, drop, length-take}
-use Rattle.text_hex.specs.Digits.{numberOf}
+use Rattle.text_hex.specs.Digits.{numberOfDigits}
 use Rattle.text_hex.proofs.Numbers.{number-fits}
 use Rattle.text_hex.proofs.Frames.{all-digits-part}
 use Rattle.text_hex.proofs.read.byte_at.Statement.{statement}
@@ -41,13 +40,13 @@ cast-result : tie.Need-cast-result
 cast-result c =
     let at = c .before .before .before .args .at in
     let line = c .before .before .before .args .line .now in
-    let number : c .number .result ≡ numberOf (take (at + 2 - at) (drop at line)) = c .number .ensures in
+    let number : c .number .result ≡ numberOfDigits (take (at + 2 - at) (drop at line)) = c .number .ensures in
     record {
       fits = rw (number, part-is at line) (number-fits (take 2 (drop at line)) 2 (part-long 2 (drop at line)) (all-digits-part at 2 line (c .before .before .before .pre .1)));
     }
 
 returns : tie.Need-returns
-returns c = c .number .ensures ∙ ap numberOf (part-is (c .before .before .before .args .at) (c .before .before .before .args .line .now))
+returns c = c .number .ensures ∙ ap numberOfDigits (part-is (c .before .before .before .args .at) (c .before .before .before .args .line .now))
 
 pub byte-at-spec : {M : Type 1} → statement M
 byte-at-spec =

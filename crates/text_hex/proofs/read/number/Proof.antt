@@ -1,18 +1,17 @@
 -- `text_hex::read::number` meets its contract. The loop's invariant: reading on from i with the number so far gives the whole number.
 -- The number so far is at most the whole one, which fits.
--- Assumes nothing.
 use mathlib.Core.Path.{_≡_, refl}
 use Prim.Native.Nat.{_-_, _≤_}
 use native.Mathlib.Omega.{arith}
 use borrow.Author.Needs.{needs}
 use lib.ListN.{length, drop}
-use Rattle.text_hex.specs.Digits.{numberAfter, numberOf}
+use Rattle.text_hex.specs.Digits.{numberAfter, numberOfDigits}
 use Rattle.text_hex.proofs.Scans.{number-at, number-so-far-fits, number-to-the-end}
 use Rattle.text_hex.proofs.read.number.Statement.{statement}
 use Rattle.text_hex.proofs.read.number.Tie as tie
 
 abbrev Inv-loop : tie.InvT-loop
-Inv-loop digits number₀ i₀ number i = (i ≤ length digits) × (numberAfter number (drop i digits) ≡ numberOf digits)
+Inv-loop digits number₀ i₀ number i = (i ≤ length digits) × (numberAfter number (drop i digits) ≡ numberOfDigits digits)
 
 abbrev μ-loop : tie.MeasureT-loop
 μ-loop digits number₀ i₀ number i = length digits - i

@@ -1,5 +1,4 @@
 -- `text_hex::read::read_line` meets its contract: each way out is a case of `frameOf`, and each field is the number of its digits.
--- Assumes nothing.
 use mathlib.Core.Path.{_≡_, sym, _∙_}
 use mathlib.Core.Bool.{true}
 use native.Mathlib.Omega.{arith}

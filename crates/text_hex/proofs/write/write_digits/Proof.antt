@@ -1,5 +1,4 @@
 -- `text_hex::write::write_digits` meets its contract. The loop's invariant is `Putting`, of which the laws in Written.antt speak.
--- Assumes nothing.
 use Prim.Native.Nat.{_+_, _≤_}
 use borrow.Author.Needs.{needs}
 use lib.ListN.{length}

@@ -1,5 +1,4 @@
 -- `text_hex::write::write_line` meets its contract: the one number that it writes has the frame's digits, and the line feed stands behind.
--- Assumes nothing.
 use borrow.Author.Needs.{needs}
 use Rattle.text_hex.proofs.Written.{line-put}
 use Rattle.text_hex.proofs.write.write_line.Statement.{statement}

@@ -1,5 +1,4 @@
 -- `text_lines::Gathered::start` stands for no bytes, under either rule and beside any buffer.
--- Assumes nothing.
 use Rattle.text_lines.proofs.Standing.{stands-start}
 use Rattle.text_lines.proofs.Gathered.start.Statement.{statement}
 use Rattle.text_lines.proofs.Gathered.start.Tie as tie

@@ -1,6 +1,5 @@
 -- The proof of the cycle of calls {delete_in}. The measure is the levels left. At a leaf a mark is taken out; at a branch the laws of one level say
 -- that the child is ready, and that the branch can be brought up to date with what its delete left.
--- Assumes nothing.
 use Prim.Native.Nat.{ℕ, _<_}
 use native.Mathlib.Nat.{pos-of-ne-zero}
 use native.Mathlib.Omega.{arith}

@@ -1,5 +1,4 @@
 -- `tree_delete::mends::mend_child` meets its contract: the child is large enough, or is mended with its neighbour.
--- Assumes nothing.
 use Rattle.tree_delete.proofs.ShortChildren.{first-ready, left-ready, first-mended, left-mended, stays-mended}
 use borrow.Author.Needs.{needs}
 use Rattle.tree_delete.proofs.mends.mend_child.Statement.{statement}

@@ -1,5 +1,4 @@
 -- `tree_delete::mends::settle` meets its contract: the entry is adjusted, and then the child is mended.
--- Assumes nothing.
 use Rattle.tree_delete.proofs.Settles.{take-ready, short-ready, settled}
 use borrow.Author.Needs.{needs}
 use Rattle.tree_delete.proofs.mends.settle.Statement.{statement}

@@ -1,5 +1,4 @@
 -- `tree_delete::nodes::join_nodes` meets its contract, for leaves and for branches.
--- Assumes nothing.
 use Rattle.tree_delete.proofs.NodeMends.{join-leaves-ready, join-branches-ready, joined-leaves, joined-branches}
 use borrow.Author.Needs.{needs}
 use Rattle.tree_delete.proofs.nodes.join_nodes.Statement.{statement}

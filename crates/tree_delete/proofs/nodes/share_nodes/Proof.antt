@@ -1,5 +1,4 @@
 -- `tree_delete::nodes::share_nodes` meets its contract, for leaves and for branches.
--- Assumes nothing.
 use Rattle.tree_delete.proofs.NodeMends.{share-leaves-ready, share-branches-ready, shared-leaves, shared-branches}
 use borrow.Author.Needs.{needs}
 use Rattle.tree_delete.proofs.nodes.share_nodes.Statement.{statement}

@@ -1,5 +1,4 @@
 -- `tree_delete::pairs::join_pair` meets its contract: one entry is written, and the next is taken out.
--- Assumes nothing.
 use native.Mathlib.Omega.{arith}
 use Rattle.tree_delete.proofs.PairWrites.{two-nodes, joined-summary, still-branch, join-returns}
 use borrow.Author.Needs.{needs}

@@ -1,5 +1,4 @@
 -- `tree_delete::pairs::share_pair` meets its contract: both entries are written anew.
--- Assumes nothing.
 use Rattle.tree_delete.proofs.PairWrites.{two-nodes, first-summary, second-summary, share-returns}
 use borrow.Author.Needs.{needs}
 use Rattle.tree_delete.proofs.pairs.share_pair.Statement.{statement}

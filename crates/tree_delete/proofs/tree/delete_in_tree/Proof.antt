@@ -1,5 +1,4 @@
 -- `tree_delete::tree::delete_in_tree` meets its contract: the root stays, or its only child takes its place.
--- Assumes nothing.
 use Rattle.tree_delete.proofs.RootShrinks.{root-leaf, root-kept, root-gone}
 use borrow.Author.Needs.{needs}
 use Rattle.tree_delete.proofs.tree.delete_in_tree.Statement.{statement}

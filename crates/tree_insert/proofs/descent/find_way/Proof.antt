@@ -1,13 +1,12 @@
 -- `tree_insert::descent::find_way` meets its contract. The loop's invariant: the way is found down to the level that it has come to.
--- Assumes nothing.
 use borrow.Author.Needs.{needs}
-use Rattle.tree_insert.proofs.WaysDown.{Found, found-start, found-down, found-all, found-choice, found-inside, found-low, found-past}
+use Rattle.tree_insert.proofs.WaysDown.{WayFound, found-start, found-down, found-all, found-choice, found-inside, found-low, found-past}
 use Rattle.tree_insert.proofs.descent.find_way.Statement.{statement}
 use Rattle.tree_insert.proofs.descent.find_way.Tie as tie
 
 abbrev Inv-loop : tie.InvT-loop
 Inv-loop pool level b i blocks₀ places₀ children₀ at₀ block₀ place₀ blocks places children at block place =
-    Found pool level b i at block place blocks places children
+    WayFound pool level b i at block place blocks places children
 
 abbrev μ-loop : tie.MeasureT-loop
 μ-loop pool level b i blocks₀ places₀ children₀ at₀ block₀ place₀ blocks places children at block place =

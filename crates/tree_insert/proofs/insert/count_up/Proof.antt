@@ -1,15 +1,14 @@
 -- `tree_insert::insert::count_up` meets its contract. The loop's invariant: the insert has come up to the level that the loop has come to.
--- Assumes nothing.
 use borrow.Author.Needs.{needs}
 use Prim.Native.Nat.{_-_}
-use Rattle.tree_insert.specs.Ways.{Counted}
+use Rattle.tree_insert.specs.Ways.{CountedUp}
 use Rattle.tree_insert.proofs.WaysUp.{counted-start, count-ready, next-counted, all-counted}
 use Rattle.tree_insert.proofs.insert.count_up.Statement.{statement}
 use Rattle.tree_insert.proofs.insert.count_up.Tie as tie
 
 abbrev Inv-loop : tie.InvT-loop
 Inv-loop pool₀ from level c blocks children at₀ pool at =
-    Counted level c blocks children at₀ pool₀ at pool
+    CountedUp level c blocks children at₀ pool₀ at pool
 
 abbrev μ-loop : tie.MeasureT-loop
 μ-loop pool₀ from level c blocks children at₀ pool at =

@@ -1,5 +1,4 @@
 -- `tree_insert::insert::go_up` meets its contract. The loop's invariant: the insert has come up to the level that the loop has come to.
--- Assumes nothing.
 use borrow.Author.Needs.{needs}
 use Prim.Native.Nat.{_-_}
 use Rattle.tree_insert.specs.Ways.{Climbed}

@@ -1,5 +1,4 @@
 -- `tree_insert::insert::insert_in` meets its contract: a way found, the leaf's insert, and the way back up make the tree's.
--- Assumes nothing.
 use borrow.Author.Needs.{needs}
 use Rattle.tree_insert.proofs.WaysDown.{insertable, ready-leaf}
 use Rattle.tree_insert.proofs.WaysUp.{way-climber, way-inserted}

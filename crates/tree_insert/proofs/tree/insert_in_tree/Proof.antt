@@ -1,5 +1,4 @@
 -- `tree_insert::tree::insert_in_tree` meets its contract, with a new root where the old one was split.
--- Assumes nothing.
 use Rattle.tree_insert.proofs.WholeTrees.{root-ready, tree-kept, tree-grown}
 use borrow.Author.Needs.{needs}
 use Rattle.tree_insert.proofs.tree.insert_in_tree.Statement.{statement}

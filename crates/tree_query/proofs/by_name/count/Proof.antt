@@ -1,5 +1,4 @@
 -- `tree_query::by_name::count` meets its contract, for a root that is a leaf and for any other.
--- Assumes nothing.
 use Rattle.tree_query.proofs.Counted.{leaf-ready, leaf-counted, branch-ready, branch-counted}
 use borrow.Author.Needs.{needs}
 use Rattle.tree_query.proofs.by_name.count.Statement.{statement}

@@ -1,5 +1,4 @@
 -- `tree_query::by_name::count_in_branch` meets its contract: the last entry's count on top of those before it.
--- Assumes nothing.
 use Rattle.tree_query.proofs.Counted.{branch-adds, branch-fits}
 use borrow.Author.Needs.{needs}
 use Rattle.tree_query.proofs.by_name.count_in_branch.Statement.{statement}

@@ -1,5 +1,4 @@
 -- `tree_query::by_name::length` meets its contract: the record says how many marks the tree has.
--- Assumes nothing.
 use borrow.Author.Needs.{needs}
 use Rattle.tree_query.proofs.Opened.{record-length}
 use Rattle.tree_query.proofs.by_name.length.Statement.{statement}

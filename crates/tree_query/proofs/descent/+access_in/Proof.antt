@@ -1,6 +1,5 @@
 -- The proof of the cycle of calls {access_in}. The measure is the levels left. A leaf has the mark itself; at a branch the laws of the descent say
 -- what is left of the place in the child that was chosen, and take its answer up.
--- Assumes nothing.
 use Prim.Native.Nat.{ℕ, _<_}
 use native.Mathlib.Nat.{pos-of-ne-zero}
 use native.Mathlib.Omega.{arith}

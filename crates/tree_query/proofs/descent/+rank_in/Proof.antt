@@ -1,6 +1,5 @@
 -- The proof of the cycle of calls {rank_in}. The measure is the levels left. A leaf counts its first i marks; at a branch the child takes what is
 -- left of i, and the c of the children before it are added. The sum is a rank at i, so it is at most i.
--- Assumes nothing.
 use Prim.Native.Nat.{ℕ, _<_}
 use native.Mathlib.Nat.{pos-of-ne-zero}
 use native.Mathlib.Omega.{arith}

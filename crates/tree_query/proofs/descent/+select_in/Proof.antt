@@ -1,6 +1,5 @@
 -- The proof of the cycle of calls {select_in}. The measure is the levels left. A leaf finds the j-th c; at a branch the child takes what is left
 -- of j, and the marks of the children before it are passed. The sum is a place, so it is at most the marks that the entries tell.
--- Assumes nothing.
 use Prim.Native.Nat.{ℕ, _<_}
 use native.Mathlib.Nat.{pos-of-ne-zero}
 use native.Mathlib.Omega.{arith}

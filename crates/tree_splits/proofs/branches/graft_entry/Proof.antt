@@ -1,5 +1,4 @@
 -- `tree_splits::branches::graft_entry` meets its contract, with room and with a split.
--- Assumes nothing.
 use native.Mathlib.Omega.{arith}
 use Rattle.tree_splits.proofs.Grafts.{graft-kept, split-ready, graft-parted}
 use borrow.Author.Needs.{needs}

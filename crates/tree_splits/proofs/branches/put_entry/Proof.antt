@@ -1,5 +1,4 @@
 -- `tree_splits::branches::put_entry` meets its contract: a gap, and the entry in it.
--- Assumes nothing.
 use Rattle.tree_splits.proofs.EntryPuts.{entry-put}
 use borrow.Author.Needs.{needs}
 use Rattle.tree_splits.proofs.branches.put_entry.Statement.{statement}

@@ -1,5 +1,4 @@
 -- `tree_splits::branches::split_branch` meets its contract, by the half that the entry comes to stand in.
--- Assumes nothing.
 use Rattle.tree_splits.proofs.BranchSplits.{split-low, split-high}
 use borrow.Author.Needs.{needs}
 use Rattle.tree_splits.proofs.branches.split_branch.Statement.{statement}

@@ -1,5 +1,4 @@
 -- `tree_splits::branches::take_up` meets its contract: the entries of both pieces are written with their summaries.
--- Assumes nothing.
 use mathlib.Core.Path.{refl}
 use Rattle.tree_splits.proofs.TakeUps.{left-ready, right-ready, set-ready, graft-ready, taken-up-two}
 use borrow.Author.Needs.{needs}

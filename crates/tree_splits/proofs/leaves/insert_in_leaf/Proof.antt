@@ -1,5 +1,4 @@
 -- `tree_splits::leaves::insert_in_leaf` meets its contract, with room and with a split.
--- Assumes nothing.
 use native.Mathlib.Omega.{arith}
 use Rattle.tree_splits.proofs.LeafInserts.{full-room, leaf-kept, split-ready, leaf-parted}
 use borrow.Author.Needs.{needs}

@@ -1,5 +1,4 @@
 -- `tree_splits::leaves::split_leaf` meets its contract, by the place's half.
--- Assumes nothing.
 use native.Mathlib.Omega.{arith}
 use Rattle.tree_splits.proofs.LeafSplits.{low-ready, high-ready, split-low, split-high}
 use borrow.Author.Needs.{needs}

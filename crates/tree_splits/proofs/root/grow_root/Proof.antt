@@ -1,5 +1,4 @@
 -- `tree_splits::root::grow_root` meets its contract: the block taken gets an entry for each half.
--- Assumes nothing.
 use Rattle.tree_splits.proofs.RootGrowths.{left-ready, right-ready, root-grown}
 use borrow.Author.Needs.{needs}
 use Rattle.tree_splits.proofs.root.grow_root.Statement.{statement}

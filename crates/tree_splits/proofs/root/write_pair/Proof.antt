@@ -1,5 +1,4 @@
 -- `tree_splits::root::write_pair` meets its contract: an empty branch gets one entry and then the other.
--- Assumes nothing.
 use Rattle.tree_splits.proofs.RootGrowths.{pair-written}
 use borrow.Author.Needs.{needs}
 use Rattle.tree_splits.proofs.root.write_pair.Statement.{statement}
