@@ -9,7 +9,7 @@ use Rattle.protocol.specs.State.{lists, freshState}
 use Rattle.protocol.specs.declared.Answer.{Answer}
 use Rattle.protocol.specs.declared.Command.{Command}
 
--- what a freshState pool of so many shares answers
+-- what a formatted pool of so many shares answers
 abbrev answerOn : ℕ → Command → Answer
 answerOn shares c = respond lists (freshState shares) c .answer
 

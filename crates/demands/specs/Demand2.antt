@@ -150,7 +150,7 @@ pub record Demand2 : Type 0 where
   pub frames : (p commands room : List ℕ) (r : Outcome) (q filled : List ℕ) (ran : Ran p commands room r q filled) (zero : r .status ≡ 0)
       → All Answers (framesRun ran zero)
   pub sound : (p commands room : List ℕ) (r : Outcome) (q filled : List ℕ) → Ran p commands room r q filled → r .status ≡ 0 → Sound q
-  -- a freshState pool is sound, with every name closed
+  -- a formatted pool is sound, with every name closed
   pub fresh : (p : List ℕ) → Fresh p → Sound p × (held p ≡ freshState (shares p))
   -- document 01's edges
   pub edges : map answered edges ≡ map (λ e. e .expected) edges

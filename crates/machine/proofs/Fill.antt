@@ -62,6 +62,6 @@ fill-stays-after s (c ∷ cs) filled = fill-stays-after (respond trees s c .stat
 pub validity-stays-after : (s : State Tree) (cs : List Command) → Valid trees s → Valid trees (stateAfter trees s cs)
 validity-stays-after = commands-keep-valid trees trees-are-faithful
 
--- a freshState pool is both
+-- a formatted pool is both
 pub formatted-is-valid-and-filled : (shares : ℕ) → Valid trees (freshState shares) × FilledState (freshState shares)
 formatted-is-valid-and-filled shares = (formatted-is-valid trees shares, λ name. rw (formatted-is-closed names name) tt)

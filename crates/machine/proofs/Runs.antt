@@ -118,7 +118,7 @@ same-for-name x s t cs ds alike =
       end = ap (λ o. o .part) same;
     }
 
--- from freshly freshState pools of any two sizes
+-- from freshly formatted pools of any two sizes
 pub same-from-formatted : (x shares shares′ : ℕ) (cs ds : List Command) → x < names → framesTo x cs ≡ framesTo x ds
     → openingsOf x (freshState shares) cs ≡ openingsOf x (freshState shares′) ds
     → SameForName x (freshState shares) (freshState shares′) cs ds

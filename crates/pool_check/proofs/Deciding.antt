@@ -21,7 +21,7 @@ module _ {A : Type 0} where
   pub say-no : (A → ⊥) → Says false A
   say-no not = record { sound = λ e. never e; complete = λ a. absurd (not a) }
 
-  -- what was not-both false does not hold
+  -- what was answered false does not hold
   pub denied : {r : Bool} → Says r A → r ≡ false → A → ⊥
   denied {r} says not a = not-both r (says .complete a) not
 

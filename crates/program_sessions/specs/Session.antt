@@ -31,7 +31,7 @@ unfoldable pub stateAfterLines : State Tree → List Reading → State Tree
 stateAfterLines s [] = s
 stateAfterLines s (r ∷ rs) = stateAfterLines (responseTo s r .state) rs
 
--- the state of the program's pool, freshState
+-- the state of the program's pool, formatted
 abbrev pub atStart : State Tree
 atStart = freshState ((programPool - directorySize) / blockSize)
 

@@ -54,7 +54,7 @@ pub fn take_in(
     }
 }
 
-// Runs the commands and puts the answers at the places that were kept for them. AnswersLines how many bytes the lines have.
+// Runs the commands and puts the answers at the places that were kept for them. Answers how many bytes the lines have.
 fn answer(pool: &mut [u8], commands: &[u8], out: &mut [u8], lines: usize) -> usize
     requires { ⌜ Asks (now commands) (now out) lines ⌝ }
     ensures { λ r. ⌜ (r ≡ lineSize * lines) × AnswersLines (now (pool .entry)) (now (pool .exit)) (now (commands .entry)) (now (out .entry)) (now (out .exit)) lines ⌝ }

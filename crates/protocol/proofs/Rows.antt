@@ -5,7 +5,7 @@ use mathlib.Core.Path.{_≡_, refl, sym, subst}
 use Prim.Native.Nat.{ℕ}
 use borrow.Author.Tests.{eqb-true}
 use lib.Dec.{eqb}
-use Rattle.protocol.specs.Commands.{Row, row, rowOf, tells}
+use Rattle.protocol.specs.Commands.{Row, row, rowOf, answersValue}
 use Rattle.protocol.specs.declared.Command.{Command}
 
 -- the command with another code
@@ -28,7 +28,7 @@ module _ {A : Type 0} (P : ℕ → Row A → Type 0) where
 
 -- a row without its effect, for tables that differ in nothing else
 abbrev pub columnsOf : {A : Type 0} → Row A → Row (Unit {0})
-columnsOf r = row (r .code) (r .usesSymbol) (r .usesNumber) (r .inRange) (λ free part c. tells 0 part)
+columnsOf r = row (r .code) (r .usesSymbol) (r .usesNumber) (r .inRange) (λ free part c. answersValue 0 part)
 
 pub columns-of-row : {A : Type 0} (code : ℕ) (rs : List (Row A)) → columnsOf (rowOf code rs) ≡ rowOf code (map columnsOf rs)
 columns-of-row code [] = refl

@@ -167,7 +167,7 @@ module _ {A : Type 0} (store : Store A) (faithful : Faithful store) where
   commands-keep-valid s [] valid = valid
   commands-keep-valid s (c ∷ cs) valid = commands-keep-valid (respond store s c .state) cs (respond-keeps-valid s c valid)
 
--- a freshState pool is valid
+-- a formatted pool is valid
 pub formatted-is-valid : {A : Type 0} (store : Store A) (shares : ℕ) → Valid store (freshState shares)
 formatted-is-valid store shares =
     record { all = refl; parts = λ name. rw (formatted-is-closed names name) tt; within = omega arith }

@@ -44,7 +44,7 @@ anyNumber n number = true
 abbrev pub placeFrom : ℕ → (ℕ → ℕ) → ℕ → ℕ → Bool
 placeFrom low highest n place = leb low place && leb place (highest n)
 
--- what a command that isn't refused tells, and its name's part after it
+-- what a command that isn't refused answers, and its name's part after it
 pub record Effect (A : Type 0) : Type 0 where
   pub symbol : ℕ
   pub depth : ℕ
@@ -62,8 +62,8 @@ pub record Row (A : Type 0) : Type 0 where
 
 module _ {A : Type 0} where
   -- a value is answered and nothing else
-  abbrev pub tells : ℕ → Part A → Effect A
-  tells value part = record { symbol = 0; depth = 0; value = value; part = part }
+  abbrev pub answersValue : ℕ → Part A → Effect A
+  answersValue value part = record { symbol = 0; depth = 0; value = value; part = part }
 
   -- an open name's marks after an edit
   abbrev pub edited : (A → A) → Part A → Part A
@@ -82,7 +82,7 @@ module _ {A : Type 0} where
 
   -- the row of a code; one that changes nothing where the table has none
   abbrev pub rowOf : ℕ → List (Row A) → Row A
-  rowOf code [] = row code true true anyNumber (λ free part c. tells 0 part)
+  rowOf code [] = row code true true anyNumber (λ free part c. answersValue 0 part)
   rowOf code (r ∷ rs) = cond (eqb code (r .code)) r (rowOf code rs)
 
 module _ {A : Type 0} (store : Store A) where
@@ -91,15 +91,15 @@ module _ {A : Type 0} (store : Store A) where
   depthOf closed place = 0
   depthOf (opened alphabet q kept) place = store .depth place kept
 
-  -- What each command tells and leaves.
+  -- What each command answers and leaves.
   abbrev pub opens : ℕ → Part A → Command → Effect A
-  opens free part c = tells 0 (opened (c .symbol) (c .number) (store .empty))
+  opens free part c = answersValue 0 (opened (c .symbol) (c .number) (store .empty))
 
   abbrev pub closes : ℕ → Part A → Command → Effect A
-  closes free part c = tells 0 closed
+  closes free part c = answersValue 0 closed
 
   abbrev pub inserts : ℕ → Part A → Command → Effect A
-  inserts free part c = tells (length (marksOf store part) + 1) (edited (store .insert (c .symbol) (c .number)) part)
+  inserts free part c = answersValue (length (marksOf store part) + 1) (edited (store .insert (c .symbol) (c .number)) part)
 
   abbrev pub deletes : ℕ → Part A → Command → Effect A
   deletes free part c =
@@ -115,16 +115,16 @@ module _ {A : Type 0} (store : Store A) where
       record { symbol = access (marksOf store part) (c .number); depth = depthOf part (c .number); value = 0; part = part }
 
   abbrev pub ranks : ℕ → Part A → Command → Effect A
-  ranks free part c = tells (rank (c .symbol) (marksOf store part) (c .number)) part
+  ranks free part c = answersValue (rank (c .symbol) (marksOf store part) (c .number)) part
 
   abbrev pub selects : ℕ → Part A → Command → Effect A
-  selects free part c = tells (select (c .symbol) (marksOf store part) (c .number)) part
+  selects free part c = answersValue (select (c .symbol) (marksOf store part) (c .number)) part
 
   abbrev pub tells : ℕ → Part A → Command → Effect A
-  tells free part c = tells (length (marksOf store part)) part
+  tells free part c = answersValue (length (marksOf store part)) part
 
   abbrev pub tellsUnpromised : ℕ → Part A → Command → Effect A
-  tellsUnpromised free part c = tells free part
+  tellsUnpromised free part c = answersValue free part
 
   -- the table: code, whether the symbol is used, whether the number is, which numbers are in range, the effect
   unfoldable pub rows : List (Row A)

@@ -23,7 +23,7 @@ use Rattle.protocol.specs.Commands.{
 }
 use Rattle.protocol.specs.declared.Command.{Command}
 
--- a row of the table: the status, the codesBetween of the commands that are tested, and when it applies, by the unpromised shares, the name's
+-- a row of the table: the status, the codes of the commands that are tested, and when it applies, by the unpromised shares, the name's
 -- part and the command
 pub record Refusal (A : Type 0) : Type 0 where
   pub status : ℕ

@@ -35,7 +35,7 @@ pub record State (A : Type 0) : Type 0 where
   pub shares : ℕ
   pub parts : List (Part A)
 
--- a freshly freshState pool of so many shares: every name closed
+-- a freshly formatted pool of so many shares: every name closed
 abbrev pub freshState : {A : Type 0} → ℕ → State A
 freshState shares = record { shares = shares; parts = replicate names closed }
 
