@@ -30,14 +30,14 @@ module _ (p : List ℕ) (fresh : Fresh p) where
   pub fresh-sound : Sound p
   fresh-sound = rw is-formatted (formatted-sound (length (fresh .before)) allowed)
 
-  fresh-meaning : meaning p ≡ State.formatted {A = Tree} (shares p)
+  fresh-meaning : meaning p ≡ State.freshState {A = Tree} (shares p)
   fresh-meaning =
       ap meaning is-formatted
       ∙ formatted-meaning (length (fresh .before)) allowed
-      ∙ ap (λ n. State.formatted ((n - directorySize) / blockSize)) (sym (ap length is-formatted ∙ length-formatted (length (fresh .before)) allowed))
+      ∙ ap (λ n. State.freshState ((n - directorySize) / blockSize)) (sym (ap length is-formatted ∙ length-formatted (length (fresh .before)) allowed))
 
-  pub fresh-held : held p ≡ State.formatted (shares p)
+  pub fresh-held : held p ≡ State.freshState (shares p)
   fresh-held = ap (asLists trees) fresh-meaning
 
-pub fresh-part : (x : ℕ) → x < names → (p : List ℕ) (fresh : Fresh p) → meaningOf p x ≡ partOf (State.formatted {A = Tree} 0) x
+pub fresh-part : (x : ℕ) → x < names → (p : List ℕ) (fresh : Fresh p) → meaningOf p x ≡ partOf (State.freshState {A = Tree} 0) x
 fresh-part x low p fresh = sym (part-meaning p x low) ∙ ap (λ s. partOf s x) (fresh-meaning p fresh)

@@ -59,7 +59,7 @@ module _ (bytes : ℕ) (allowed : LengthAllowed bytes) where
             omega (arith, sumBelow-same names (λ name. recordOf p name .q) (λ name. 0) (λ name l. ap (λ (r : Record). r .q) (closed-record p name (all-closed name))), sumBelow-zero names);
       }
 
-  pub formatted-meaning : meaning (formatted bytes) ≡ State.formatted {A = Tree} ((bytes - directorySize) / blockSize)
+  pub formatted-meaning : meaning (formatted bytes) ≡ State.freshState {A = Tree} ((bytes - directorySize) / blockSize)
   unfolding from
   formatted-meaning =
       ap₂ {C = State.State Tree} (λ n parts. record { shares = n; parts = parts }) (ap (λ n. (n - directorySize) / blockSize) length-formatted)

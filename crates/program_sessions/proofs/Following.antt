@@ -256,7 +256,7 @@ session-starts p q status line formats stands =
             line = stands false keep;
             room = enough;
             sound = rw formatted-now (formatted-sound (length p) allowed);
-            meant = ap meaning formatted-now ∙ formatted-meaning (length p) allowed ∙ ap (λ n. State.formatted {A = Tree} ((n - directorySize) / blockSize)) is;
+            meant = ap meaning formatted-now ∙ formatted-meaning (length p) allowed ∙ ap (λ n. State.freshState {A = Tree} ((n - directorySize) / blockSize)) is;
             lines = refl;
           };
     }
