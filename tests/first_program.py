@@ -1,7 +1,7 @@
 #!/usr/bin/env python3
 """Holds the first program, `answers`, to the independent index where its input comes in pieces or is long, and keeps its stored session.
 
-    tests/first_program.py --write    write crates/answers/stdin and stdout: document 01's session
+    tests/first_program.py --write    write crates/answers/stdin and stdout: the session below
     tests/first_program.py            run target/bin/answers on that session, on small and long inputs handed over in pieces of random
                                       sizes, on an input cut at each place and on a million frames; exit 1 at the first difference.
                                       Only the time of the last is printed: no test depends on it
@@ -19,7 +19,7 @@ import sessions  # noqa: E402
 
 ANSWER = len(sessions.BAD_ANSWER) + 1
 
-# Document 01's session, line by line: what is sent and what is answered.
+# The stored session, line by line: what is sent and what is answered.
 SESSION = [
     ("0100040000000002", "0000000000000000"),
     ("0300020000000001", "0000000000000001"),
@@ -55,7 +55,7 @@ def long_inputs():
 
 
 def in_pieces(program, session):
-    """Hands each input over in pieces of random sizes, the long ones and document 01's session in one go too; how many runs that are."""
+    """Hands each input over in pieces of random sizes, the long ones and the stored session in one go too; how many runs that are."""
     runs = 0
     for data, wanted in [session, *long_inputs()]:
         compare("in one go", data, wanted, run(program, data))
@@ -99,7 +99,7 @@ def main(words):
     sent, wanted = ("".join(line + "\n" for line in side).encode() for side in zip(*SESSION))
     stored.hold("answers", {"stdin": sent, "stdout": wanted}, words, __doc__)
     if sessions.answers(sent) != wanted:
-        sys.exit("first program: document 01's session and the independent index disagree")
+        sys.exit("first program: the stored session and the independent index disagree")
     program = here("answers")
     try:
         runs = in_pieces(program, (sent, wanted))

@@ -1,5 +1,5 @@
 #!/usr/bin/env python3
-"""Holds the second program, `marks`, to document 01's rules, written here once more from the document alone.
+"""Holds the second program, `marks`, to the rules on lines (RULES, Marks of a line), written here once more from the rules alone.
 
     tests/second_program.py --write    write crates/marks/stdin and stdout from the table of cases below
     tests/second_program.py            run target/bin/marks on the table's cases, at the limit of 12,192 lines, on long lines and on
@@ -14,9 +14,9 @@ from program import Difference, Talk, compare, fail, here, pieces
 LIMIT = 12192
 SIZES = [1, 2, 3, 71, 72, 73, 4096, 65536]
 
-# A line with its line end, and the mark that document 01 gives it. One table for both sides of each rule.
+# A line with its line end, and the mark that the rules give it. One table for both sides of each rule.
 CASES = [
-    # the document's own examples
+    # the edges of the rules
     (b"     1X=1\n", 2),
     (b"      EQ UIVALENCE (A,B)\n", 3),
     # comments: nothing, blanks, or C, c, * in column 1

@@ -141,7 +141,7 @@ pub fn order_of_refusals() -> Outcome<String> {
     Ok(format!("{calls} calls"))
 }
 
-/// Document 01's edges: the shares of a fresh pool, and commands with the answers written out.
+/// The edges of the rules: the shares of a fresh pool, and commands with the answers written out.
 const EDGES: [(usize, &[(&str, &str)]); 8] = [
     // an empty open name
     (
@@ -233,7 +233,7 @@ pub fn edges() -> Outcome<String> {
         }
     }
     full_name()?;
-    Ok("document 01's list".to_string())
+    Ok("the list of RULES, Edges".to_string())
 }
 
 /// q = 1, alphabet 4, in a pool of one share: the 24th insert is taken, after that 11 and 9.

@@ -1,4 +1,4 @@
-//! A host's test of the library's C interface: whole calls, compared with document 01 and docs/LAYOUT.md.
+//! A host's test of the library's C interface: whole calls, compared with docs/RULES.md and docs/LAYOUT.md.
 
 mod calls;
 mod damaged;
@@ -18,7 +18,7 @@ use std::time::Instant;
 type Trial = (&'static str, fn() -> lent::Outcome<String>);
 
 const TRIALS: [Trial; 16] = [
-    ("edges of document 01", calls::edges),
+    ("edges of the rules", calls::edges),
     ("pools of allowed lengths", calls::allowed_lengths),
     ("pools of other lengths", calls::other_lengths),
     ("empty buffers anywhere", calls::empty_buffers),

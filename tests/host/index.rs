@@ -1,4 +1,4 @@
-//! The index of document 01 as flat lists, with each name's tree as nested lists beside them.
+//! The index of docs/RULES.md as flat lists, with each name's tree as nested lists beside them.
 
 pub const NAMES: usize = 16;
 pub const MARKS_PER_SHARE: usize = 24;

@@ -110,13 +110,13 @@ impl Reader<'_> {
     }
 }
 
-/// Every depth meets document 01's rule, and no name holds more blocks than it was promised.
+/// Every depth meets RULES, Depth, and no name holds more blocks than it was promised.
 pub fn keeps_the_rules(reading: &Reading) -> Result<(), String> {
     for (name, held) in reading.index.names.iter().zip(&reading.held) {
         let Some(name) = name else { continue };
         let (length, depth) = (name.marks.len(), name.tree.height() + 1);
         let measure = (length / 48).max(1);
-        demand(1 << (depth - 1) <= measure * measure, "depth by document 01's rule")?;
+        demand(1 << (depth - 1) <= measure * measure, "depth by the rule")?;
         demand(length > 95 || depth == 1, "depth of 95 marks or fewer")?;
         demand(held.len() <= name.shares, "blocks within the promise")?;
     }

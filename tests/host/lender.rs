@@ -62,7 +62,7 @@ impl Lender {
         Ok(answers[..frames.len()].to_vec())
     }
 
-    /// Reads the pool by its layout: it is sound, keeps to document 01's rules, and means what it should.
+    /// Reads the pool by its layout: it is sound, keeps to the rules, and means what it should.
     pub fn read(&self) -> Outcome<Reading> {
         let reading = layout::read(self.pool.bytes()).map_err(|why| format!("a call left a pool unsound: {why}"))?;
         layout::keeps_the_rules(&reading).map_err(|why| format!("a call left a pool against the rules: {why}"))?;

@@ -1,9 +1,9 @@
-//! The mark of a line, against document 01's rules written once more.
+//! The mark of a line, against RULES, Marks of a line, written once more.
 
 use crate::dice::Dice;
 use crate::lent::{Lent, Outcome, mark};
 
-/// Document 01's rules, column by column.
+/// The rules, column by column.
 fn wanted(line: &[u8]) -> u8 {
     let column = |k: usize| line.get(k - 1).copied().unwrap_or(b' ');
     let card: Vec<u8> = (1..=72).map(column).collect();

@@ -12,7 +12,7 @@ trap 'rm -rf "$work"' EXIT
 # Every trial can fail: a fault that it finds alone. 'only': no other trial finds it. 'itself': the trial finds it where answers and pools
 # aren't compared with the model, by what it compares itself. 'model': the model is all that it has to compare with.
 table='
-edges of document 01                 | numbers_cut_to_sixteen_bits     | itself
+edges of the rules                   | numbers_cut_to_sixteen_bits     | itself
 pools of allowed lengths             | format_leaves_blocks            | only itself
 pools of other lengths               | format_takes_longer_pools       | only itself
 empty buffers anywhere               | refuses_null                    | only itself

@@ -1,5 +1,5 @@
 #!/usr/bin/env python3
-"""Holds the first program to document 01 by an independent index.
+"""Holds the first program to docs/RULES.md by an independent index.
 
     tests/independent/first_program.py make SEED FRAMES INPUT OUTPUT   write a session and the answers wanted to two files
     tests/independent/first_program.py against PROGRAM                 run sessions of fixed seeds through a program and compare
@@ -50,7 +50,7 @@ def grown_names(program):
 
 
 def small_inputs(program):
-    """Edges of document 01, bad lines and line ends."""
+    """Edges of the rules, bad lines and line ends."""
     for data, wanted in sessions.small_inputs():
         compare(f"small input {data[:60]!r}", data, wanted, run(program, data))
 

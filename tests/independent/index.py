@@ -1,6 +1,6 @@
-"""The index of document 01 as flat lists, with the shape of each name's tree beside them for the depth.
+"""The index of docs/RULES.md as flat lists, with the shape of each name's tree beside them for the depth.
 
-Written from the document alone; nothing here is shared with the code under test.
+Written from the rules alone; nothing here is shared with the code under test.
 """
 
 FIELDS = {  # code: whether the symbol and the number are used

@@ -1,4 +1,4 @@
-"""Sessions for the first program, random by seed or written out: lines of input and the answers that document 01 wants."""
+"""Sessions for the first program, random by seed or written out: lines of input and the answers that the rules want."""
 from index import ACCESS, CLOSE, DELETE, INSERT, LENGTH, OPEN, RANK, SELECT, UNPROMISED, Index
 
 SHARES = 124
@@ -225,7 +225,7 @@ class Session:
         return bytes([self.dice.below(11), self.dice.below(18), self.dice.below(18), 0, 0, 0, 0, self.dice.below(40)])
 
 
-# Document 01's edges, those marked P among them, and what is answered: run at the start of one session.
+# The edges of the rules, those marked P among them, and what is answered: run at the start of one session.
 EDGES = [
     ("0100010000000001", "0600000000000000"),
     ("0100110000000001", "0600000000000000"),

@@ -1,4 +1,4 @@
-//! The first program of document 01 over the C interface, for trying tests of it before the proved one is there.
+//! The first program over the C interface, for trying tests of it before the proved one is there.
 
 #[path = "../interface.rs"]
 mod interface;

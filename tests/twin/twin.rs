@@ -1,4 +1,4 @@
-//! The unproved twin: the index of document 01 over the layout of docs/LAYOUT.md, in plain Rust.
+//! The unproved twin: the index of docs/RULES.md over the layout of docs/LAYOUT.md, in plain Rust.
 //!
 //! It has the library's C interface, so that tests can be written and tried against it, and it is the
 //! benchmark's baseline. `--cfg 'fault="NAME"'` plants one fault; every place that one touches says

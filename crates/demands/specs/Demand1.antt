@@ -1,6 +1,6 @@
--- Demand 1: "The index takes all pools, command frames and answer room that anyone can lend, always ends, relies on no check of the
--- caller's. A refused call changes no byte of the three buffers. A refused command changes no byte of the pool and still gets its
--- answer frame."
+-- Demand 1 (RULES, Demands): whatever pool, commands and answer room are lent, every call ends, and it counts on nothing that the caller
+-- might have tested. A call that is refused leaves all three buffers as they were. A command that is refused leaves the pool as it was,
+-- and has its answer frame all the same.
 use mathlib.Core.Path.{_≡_}
 use mathlib.Core.List.{List, map}
 use mathlib.Core.Logic.{_⊎_, _↔_, _≢_}
@@ -55,7 +55,7 @@ pub record AcceptedCall (p commands room : List ℕ) (r : Outcome) (q filled : L
   pub behind : drop (length commands) filled ≡ drop (length commands) room
   pub refusals : All RefusedCommand frames
 
--- run, whatever the bytes: the first of document 01's reasons that applies gives the number. Refused, all lent buffers are as they were;
+-- run, whatever the bytes: the first reason of RULES, Calls that applies gives the number. Refused, all lent buffers are as they were;
 -- the commands always are, since they are lent to be read alone
 pub record RunTakesAll (p commands room : List ℕ) (r : Outcome) (q filled : List ℕ) (ran : Ran p commands room r q filled) : Type 0 where
   pub table : StatusOfCall p commands room (r .status)

@@ -1,6 +1,6 @@
--- Demand 2: "For each name insert, delete, access, rank and select do what Definition 1 of the paper 000 says, with document 01's edges,
--- answers and order of refusals. 'Full' exactly when the promised room is used up, 'no room' exactly when too few shares are
--- unpromised."
+-- Demand 2 (RULES, Demands): for every name insert, delete, access, rank and select are those of Definition 1, with the answers, the edges
+-- and the order of refusals of the rules. 'Full' is given exactly where the promised room is used up, 'no room' exactly where too few
+-- shares are unpromised.
 use mathlib.Core.Path.{_≡_}
 use mathlib.Core.List.{List, [], _∷_, _++_, map}
 use mathlib.Core.Logic.{_↔_, _≢_}
@@ -47,7 +47,7 @@ free f = unpromised (held (f .before))
 
 -- The answers.
 
--- the answer, and what the pool then holds, are those of Definition 1 with document 01's tables; of the depth see below
+-- the answer, and what the pool then holds, are those of Definition 1 with the rules' tables; of the depth see below
 pub record ByDefinition1 (f : Frame) : Type 0 where
   pub answer : withoutDepth (f .answer) ≡ respond lists (held (f .before)) (f .command) .answer
   pub holds : held (f .after) ≡ respond lists (held (f .before)) (f .command) .state
@@ -68,7 +68,7 @@ pub record Does (f : Frame) : Type 0 where
 abbrev pub InOrder : Frame → Type 0
 InOrder f = Lowest (refusals lists) (free f) (part f) (f .command) (f .answer .status)
 
--- no refusal applies that stands before this one in document 01's order
+-- no refusal applies that stands before this one in the order of RULES, Statuses
 abbrev pub NoneBefore : ℕ → Frame → Type 0
 NoneBefore status f = NoneApplies (take (status - 1) (refusals lists)) (free f) (part f) (f .command)
 
@@ -152,7 +152,7 @@ pub record Demand2 : Type 0 where
   pub sound : (p commands room : List ℕ) (r : Outcome) (q filled : List ℕ) → Ran p commands room r q filled → r .status ≡ 0 → Sound q
   -- a formatted pool is sound, with every name closed
   pub fresh : (p : List ℕ) → Fresh p → Sound p × (held p ≡ freshState (shares p))
-  -- document 01's edges
+  -- RULES, Edges
   pub edges : map answered edges ≡ map (λ e. e .expected) edges
   pub rankAndSelect : (c : ℕ) (xs : List ℕ) → RankAndSelect c xs
   pub oneOrSeveral : (p q q′ : List ℕ) (calls calls′ : List Call) → Session p calls q → Session p calls′ q′

@@ -1,7 +1,7 @@
--- Demand 3: "Two runs from formatted pools in which one file's commands are the same, and each opening of it gets the same status,
--- answer that file alike byte for byte, whatever the other files do and however large the pools. No command naming another file changes
--- a byte of a block that this file holds." And document 01: "The tree's shape depends only on the commands of its own name since its
--- opening, never on which blocks it was handed."
+-- Demand 3 (RULES, Demands): two runs from formatted pools, in which one file gets the same commands and each of its openings the same
+-- status, give that file the same answers byte for byte, whatever other files do and whatever the pools' sizes. No command that names
+-- another file changes a byte of a block that this file holds. And RULES, Trees: the shape of the tree depends on the commands that its
+-- own name got since it was opened, and not on the blocks that it was handed.
 use mathlib.Core.Path.{_≡_}
 use mathlib.Core.List.{List, [], _∷_, _++_, map}
 use mathlib.Core.Logic.{_≢_}

@@ -1,4 +1,4 @@
-// One frame executed on a sound pool: its status by document 01's tests, and where none applies, what the command asks.
+// One frame executed on a sound pool: its status by the tests of RULES, Statuses, and where none applies, what the command asks.
 ghost use Rattle.frame_execute.specs.Steps.{Ready, Stepped};
 use crate::changes::change;
 use frame_queries::ask;

@@ -1,4 +1,4 @@
-// The status of a command on a sound pool: document 01's tests in their order, and 0 where none applies.
+// The status of a command on a sound pool: the tests of RULES, Statuses in their order, and 0 where none applies.
 ghost use mathlib.Core.Path.{_≡_};
 ghost use Rattle.pool.specs.Sound.{Sound};
 ghost use Rattle.frame_status.specs.Statuses.{statusIn};

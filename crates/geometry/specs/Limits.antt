@@ -1,4 +1,4 @@
--- The sizes and limits that document 01 sets, by the names that the code has for them.
+-- The sizes and limits that the rules set, by the names that the code has for them.
 use Prim.Native.Nat.{ℕ, _+_, _-_, _*_, _/_}
 use Rattle.geometry.specs.declared.limits.Limits.{Limits}
 

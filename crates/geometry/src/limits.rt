@@ -1,4 +1,4 @@
-// The sizes and limits that document 01 sets.
+// The sizes and limits that the rules set.
 ghost use mathlib.Core.Path.{_≡_};
 ghost use Rattle.geometry.specs.Limits.{allLimits};
 use crate::Record;

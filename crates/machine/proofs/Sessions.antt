@@ -1,4 +1,4 @@
--- The machine computes: document 01's example, and a tree that grows to two levels and comes back to one.
+-- The machine computes: the stored session of the first program, and a tree that grows to two levels and comes back to one.
 use mathlib.Core.List.{[], _∷_}
 use mathlib.Core.Path.{_≡_, refl}
 use Rattle.protocol.specs.Commands.{rows}

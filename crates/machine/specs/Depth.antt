@@ -1,4 +1,4 @@
--- The depth that an answer tells, and document 01's rule for it.
+-- The depth that an answer tells, and the rule for it (RULES, Depth).
 use mathlib.Core.Logic.{_≢_}
 use mathlib.Core.Path.{_≡_}
 use Prim.Native.Nat.{ℕ, suc, _≤_, _<_}

@@ -1,4 +1,4 @@
--- Document 01's example of the first program, as frames of eight bytes, and a session in which a tree grows and shrinks.
+-- The stored session of the first program as frames of eight bytes, and a session in which a tree grows and shrinks.
 use mathlib.Core.List.{List, [], _∷_, _++_, map}
 use Prim.Native.Nat.{ℕ, _+_, _-_, _/_}
 use lib.ListN.{replicate, drop}

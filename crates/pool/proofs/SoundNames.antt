@@ -1,4 +1,4 @@
--- What a sound pool says of its names: document 01's promises of blocks and depth, from the theory of the tree at the name's own tree;
+-- What a sound pool says of its names: what the rules promise of blocks and depth, from the theory of the tree at the name's own tree;
 -- and the free blocks, since no block is held twice.
 use mathlib.Core.Path.{_≡_, ap, _∙_}
 use mathlib.Core.Bool.{cond}

@@ -1,4 +1,4 @@
--- The definition computes: document 01's session, to the byte, and the lines that it calls bad.
+-- The definition computes: the stored session of the first program, to the byte, and lines that are no frame.
 use mathlib.Core.List.{[], _∷_}
 use mathlib.Core.Path.{_≡_, refl}
 use Rattle.program_batches.specs.Answers.{badAnswer, lineOfAnswer, lineOfBytes}
@@ -17,7 +17,7 @@ use Rattle.shape.specs.Paths.{path}
 use Rattle.shape.specs.Trees.{insertNode, grown, insertT}
 use Rattle.program_sessions.specs.Session.{answersToLines, writtenFor, sessionOf}
 
--- document 01's input and output, whole
+-- its input and output, whole
 pub example-session : sessionOf (joined lineOfBytes input) ≡ joined lineOfBytes output
 unfolding sessionOf writtenFor answersToLines linesOf ended left trim trims frameOf spelled valueOf lineOfBytes lineOf digitsOfFrame digitsOf digitOf input output commandOf respond reply statusOf refusals rows count access rank select insert insertT insertNode grown chop halves path
 example-session = refl

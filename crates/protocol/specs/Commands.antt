@@ -1,4 +1,4 @@
--- The table of commands, row by row as in document 01: code, which fields are used, which numbers are places, and what is answered.
+-- The table of commands, row by row as in RULES, Commands: code, which fields are used, which numbers are places, and what is answered.
 use mathlib.Core.Bool.{Bool, true, false, cond, _&&_, _||_}
 use mathlib.Core.List.{List, [], _∷_, map}
 use Prim.Native.Nat.{ℕ, _+_, _-_}

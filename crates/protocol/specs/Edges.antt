@@ -1,4 +1,4 @@
--- The edges of document 01 that are facts about the definitions: what is answered to a command after a history on a fresh pool.
+-- The edges that are facts about the definitions (RULES, Edges): what is answered to a command after a history on a fresh pool.
 use mathlib.Core.List.{List, [], _∷_, _++_}
 use Prim.Native.Nat.{ℕ}
 use lib.ListN.{replicate}
@@ -60,7 +60,7 @@ oneTwoTwo = openedFour ++ (toFirst insertCode 1 1 ∷ toFirst insertCode 2 2 ∷
 abbrev pub filled : ℕ → List Command
 filled many = openedFour ++ replicate many (toFirst insertCode 3 1)
 
--- the table; the groups marked P are document 01's
+-- the table; the groups marked P have those of RULES, Edges
 unfoldable pub edges : List Edge
 edges =
     -- P: an empty open name

@@ -1,4 +1,4 @@
--- The table of statuses of a frame, row by row as in document 01. The order of the rows decides.
+-- The table of statuses of a frame, row by row as in RULES, Statuses. The order of the rows decides.
 use mathlib.Core.Bool.{Bool, true, false, cond, not, _&&_, _||_}
 use mathlib.Core.List.{List, [], _∷_, map}
 use mathlib.Core.Logic.{_⊎_, _≢_}

@@ -1,4 +1,4 @@
-// The codes and statuses that document 01 numbers, in its order.
+// The codes and statuses, numbered and in the order of RULES, Commands and Statuses.
 ghost use mathlib.Core.Path.{_≡_};
 ghost use Rattle.protocol.specs.Commands.{allCodes};
 ghost use Rattle.protocol.specs.Refusals.{allStatuses};

@@ -1,5 +1,5 @@
--- Definition 1 of the paper 000, as document 01 puts it: the operations on a list of marks. Places count from 1.
--- Each is total. What it gives outside document 01's ranges is of no account: the protocol refuses there.
+-- Definition 1 (RULES, Operations): the operations on a list of marks. Places count from 1.
+-- Each is total. What it gives outside the ranges of RULES, Commands is of no account: the protocol refuses there.
 use mathlib.Core.Bool.{cond}
 use mathlib.Core.List.{List, [], _∷_, _++_}
 use Prim.Native.Nat.{ℕ, zero, suc, _+_, _-_}

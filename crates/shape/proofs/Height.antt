@@ -48,7 +48,7 @@ module _ (s : Sizes) (proper : Proper s) (u : ℕ) (small : u ≤ s .leafLeast) 
       let q : 2 ^ suc h ≤ marksIn (suc h) x / u = (le-div-iff-mul-le one) .1 (rw mul-comm (root-doubles h x p)) in
       omega arith
 
-  -- the depth rule, and sharper: at most m, where document 01 asks for m · m
+  -- the depth rule, and sharper: at most m, where RULES, Depth asks for m · m
   pub depth-most : 1 ≤ u → (i : ℕ) (t : Tree) → FilledT s t → 2 ^ (depthT i t - 1) ≤ max 1 (length (marksT t) / u)
   depth-most one i t p =
       let e : depthT i t - 1 ≡ t .height = omega (arith, depth-height i t) in

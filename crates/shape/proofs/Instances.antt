@@ -20,7 +20,7 @@ oneToAByte-proper = record { leafHalves = refl; leafTwo = omega arith; branchHal
 pub twoToAByte-proper : Proper twoToAByte
 twoToAByte-proper = record { leafHalves = refl; leafTwo = omega arith; branchHalves = refl; branchTwo = omega arith; shareOne = omega arith; leafShares = omega arith }
 
--- Marks one to a byte, as document 01 says it.
+-- Marks one to a byte, as RULES, Names and shares has them.
 module _ (t : Tree) (filled : FilledT oneToAByte t) where
   -- it never holds more than q blocks
   pub blocks-in-shares : (q : ℕ) → 1 ≤ q → length (marksT t) ≤ marksPerShare * q → blocksT t ≤ q
@@ -33,7 +33,7 @@ module _ (t : Tree) (filled : FilledT oneToAByte t) where
   pub depth-is-one : (i : ℕ) → length (marksT t) < 2 * marksPerDepth → depthT i t ≡ 1
   depth-is-one i few = depth-one oneToAByte oneToAByte-proper marksPerDepth (omega arith) i t filled few
 
-  -- document 01's rule
+  -- the rule of RULES, Depth
   pub depth-keeps-rule : (i : ℕ) → DepthRule (length (marksT t)) (depthT i t)
   depth-keeps-rule i = record { most = depth-in-rule i; one = depth-is-one i }
 

@@ -1,4 +1,4 @@
--- Document 01's rule of the depth.
+-- The rule of the depth (RULES, Depth).
 use mathlib.Core.Path.{_≡_}
 use Prim.Native.Nat.{ℕ, _-_, _*_, _/_, _^_, _≤_, _<_, max}
 use Rattle.geometry.specs.Limits.{marksPerDepth}

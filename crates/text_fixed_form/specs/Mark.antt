@@ -1,4 +1,4 @@
--- The mark of a fixed-form line of Fortran, by document 01's rules. A line is a list of bytes; columns count from 1.
+-- The mark of a fixed-form line of Fortran (RULES, Marks of a line). A line is a list of bytes; columns count from 1.
 use mathlib.Core.Bool.{Bool, true, false, cond, not, _&&_, _||_}
 use mathlib.Core.List.{List, [], _∷_, map}
 use Prim.Native.Nat.{ℕ, _+_, _-_}
@@ -123,7 +123,7 @@ abbrev pub firstThatFits : List (Bool × ℕ) → ℕ
 firstThatFits [] = other
 firstThatFits (rule ∷ rules) = cond (rule .0) (rule .1) (firstThatFits rules)
 
--- each rule's test and its mark, in document 01's order
+-- each rule's test and its mark, in the order of RULES, Marks of a line
 abbrev pub rules : List ℕ → List (Bool × ℕ)
 rules columns =
     (anyOutside columns, outside) ∷

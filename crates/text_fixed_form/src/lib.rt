@@ -1,4 +1,4 @@
-// Marks for the lines of a fixed-form Fortran program, by document 01's rules.
+// Marks for the lines of a fixed-form Fortran program (RULES, Marks of a line).
 ghost use mathlib.Core.Path.{_≡_};
 ghost use Rattle.text_fixed_form.specs.Mark.{markOf, firstThatFits, rules, isComment, isContinuation, opensComment, continues};
 use columns::all_blank;
@@ -12,7 +12,7 @@ use words::begins;
 mod columns;
 mod words;
 
-// The marks, by document 01's rules in their order.
+// The marks, in the order of the rules.
 // a line with a byte that no line may have
 const OUTSIDE: u8 = 15;
 // a comment

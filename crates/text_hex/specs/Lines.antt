@@ -27,7 +27,7 @@ spelled line =
 unfoldable pub frameOf : List ℕ → Reading
 frameOf line = cond (isFrame line) (spelled line) Bad
 
--- document 01's numbers for each case: a frame's own, and those of the answer FF00000000000000 that a bad line gets
+-- the numbers of each case: a frame's own, and those of the answer FF00000000000000 that a bad line gets
 abbrev pub numbersOf : Reading → List ℕ
 numbersOf (Frame code name symbol fourth number) = code ∷ name ∷ symbol ∷ fourth ∷ number ∷ []
 numbersOf Bad = 255 ∷ 0 ∷ 0 ∷ 0 ∷ 0 ∷ []

@@ -34,7 +34,7 @@ module _ (p : List ℕ) (name : ℕ) (opened : OpenName p name) (r : Record) (is
   pub record-selected : (c j n : ℕ) → n ≡ select c (flat (r .height) (shapeAt p (r .height) (r .root))) j → n ≡ select c (marksT (treeOf p name)) j
   record-selected c j n answer = answer ∙ ap (λ (xs : List ℕ). select c xs j) record-marks
 
-  -- and so is the mark; the depth is that of the name's tree, and keeps to document 01's rule
+  -- and so is the mark; the depth is that of the name's tree, and keeps to RULES, Depth
   pub record-found : (i mark blocks : ℕ) → FoundIn p (r .height) (r .root) i mark 0 blocks → FoundOf p name i (record { mark = mark; blocks = blocks })
   record-found i mark blocks answer =
       let here : FoundIn p (recordOf p name .height) (recordOf p name .root) i mark 0 blocks = rw is at answer in
