@@ -23,8 +23,8 @@ module _ {p q : List ℕ} where
       → Moved (blockAt from + i) (blockAt to + j) many p q
   moved-at source target from to i j many e e' m = rw (e, e') at m
 
-  pub count-put : (b at many : ℕ) → at ≡ blockAt b → PutWord (at + countAt) many p q → PutWord (blockAt b + countAt) many p q
-  count-put b at many e w = rw e at w
+  pub entry-count-put : (b at many : ℕ) → at ≡ blockAt b → PutWord (at + countAt) many p q → PutWord (blockAt b + countAt) many p q
+  entry-count-put b at many e w = rw e at w
 
 -- an entry more or fewer
 module _ (p : List ℕ) (unit b k many : ℕ) (inside : b < shares p) (is : Is (entries p b) many) where

@@ -32,7 +32,7 @@ fn move_entries(
 }
 
 // Writes a block's number of entries.
-fn put_count(pool: &mut [u8], b: usize, many: usize)
+fn put_entry_count(pool: &mut [u8], b: usize, many: usize)
     requires { ⌜ (b < shares (now pool)) × (many < wordLimit) ⌝ }
     ensures { λ _. ⌜ PutWord (blockAt b + countAt) many (now (pool .entry)) (now (pool .exit)) ⌝ }
 {
@@ -46,7 +46,7 @@ pub fn open_gap(pool: &mut [u8], b: usize, unit: usize, k: usize)
 {
     let many = entry_count(pool, b);
     move_entries(pool, unit, b, k, b, k + 1, many - k);
-    put_count(pool, b, many + 1);
+    put_entry_count(pool, b, many + 1);
 }
 
 // Takes entry k out.
@@ -56,7 +56,7 @@ pub fn close_gap(pool: &mut [u8], b: usize, unit: usize, k: usize)
 {
     let many = entry_count(pool, b);
     move_entries(pool, unit, b, k + 1, b, k, many - (k + 1));
-    put_count(pool, b, many - 1);
+    put_entry_count(pool, b, many - 1);
 }
 
 // Moves the entries from number `cut` on to the block `new`.
@@ -66,7 +66,7 @@ pub fn cut_off(pool: &mut [u8], b: usize, new: usize, unit: usize, cut: usize)
 {
     let many = entry_count(pool, b);
     move_entries(pool, unit, b, cut, new, 0, many - cut);
-    put_count(pool, b, cut);
+    put_entry_count(pool, b, cut);
     put_trailer(pool, new, many - cut);
 }
 
@@ -76,7 +76,7 @@ fn put_trailer(pool: &mut [u8], b: usize, many: usize)
     ensures { λ _. ⌜ PutTrailer b many (now (pool .entry)) (now (pool .exit)) ⌝ }
 {
     put_byte(pool, block_at(b) + Record::FORM_AT, Record::FORM_MARKS);
-    put_count(pool, b, many);
+    put_entry_count(pool, b, many);
 }
 
 // Makes the block b one without entries: a leaf without marks, or a branch without children.
@@ -96,7 +96,7 @@ pub fn join(pool: &mut [u8], left: usize, right: usize, unit: usize)
     let here = entry_count(pool, left);
     let there = entry_count(pool, right);
     move_entries(pool, unit, right, 0, left, here, there);
-    put_count(pool, left, here + there);
+    put_entry_count(pool, left, here + there);
 }
 
 // Shares two blocks' entries out: the left one gets half of them.
@@ -108,8 +108,8 @@ pub fn share_out(pool: &mut [u8], left: usize, right: usize, unit: usize)
     let there = entry_count(pool, right);
     let half = (here + there) / 2;
     refill(pool, left, right, unit, here, there, half);
-    put_count(pool, left, half);
-    put_count(pool, right, here + there - half);
+    put_entry_count(pool, left, half);
+    put_entry_count(pool, right, here + there - half);
 }
 
 // Moves entries between two blocks, so that the left one has the first `many` of all: from the right block's front behind the left block's,
