@@ -7,10 +7,9 @@ use lib.ListN.{length, take, length-take}
 use lib.Seq.{getD-take}
 use Rattle.call_tests.specs.Tests.{Judged}
 use Rattle.geometry.specs.Limits.{directorySize, mostShares, frameSize}
-use Rattle.name_open_close.specs.Updates.{Exact}
 use Rattle.pool.specs.Bytes.{shares}
 use Rattle.pool.specs.Sound.{LengthAllowed}
-use Rattle.pool_check.specs.Maps.{MapOf}
+use Rattle.pool_holders.specs.Maps.{MapOf, Exact}
 use Rattle.call_run.specs.Calls.{Ran}
 use Rattle.call_run.specs.Frames.{FramesReady, FramesRun}
 use Rattle.call_run.proofs.Outcomes.{TestsPassed, all-passed}

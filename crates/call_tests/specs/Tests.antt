@@ -6,7 +6,7 @@ use Prim.Native.Nat.{ℕ, _%_, _≤_}
 use lib.ListN.{length}
 use Rattle.geometry.specs.Limits.{frameSize, longestCommands, mostShares}
 use Rattle.pool.specs.Sound.{LengthAllowed, Sound}
-use Rattle.pool_check.specs.Maps.{MapOf}
+use Rattle.pool_holders.specs.Maps.{MapOf}
 
 -- a length that commands may have: whole frames, and not too many
 pub record CommandsAllowed (bytes : ℕ) : Type 0 where

@@ -7,7 +7,7 @@ use Prim.Native.Nat.{ℕ, _<_}
 use lib.ListN.{length}
 use Rattle.geometry.specs.Limits.{names}
 use Rattle.machine.specs.Machine.{trees}
-use Rattle.name_open_close.specs.Updates.{Exact}
+use Rattle.pool_holders.specs.Maps.{Exact}
 use Rattle.pool.specs.Meaning.{meaning}
 use Rattle.pool.specs.Names.{blocksOf}
 use Rattle.pool.specs.Sound.{Sound}

@@ -20,8 +20,7 @@ use Rattle.pool.proofs.Changed.{only-none}
 use Rattle.pool.proofs.Meanings.{closed-meaning}
 use Rattle.pool.proofs.SoundNames.{closed-blocks}
 use Rattle.pool.proofs.Written.{closed-put}
-use Rattle.pool_holders.specs.Maps.{isFree}
-use Rattle.name_open_close.specs.Holders.{HolderFreed}
+use Rattle.pool_holders.specs.Maps.{isFree, HolderFreed}
 use Rattle.name_open_close.specs.Updates.{CloseReady, Updated}
 use Rattle.name_open_close.proofs.ExactMaps.{Turns, zero-isFree, held-isFree, same-free, held-has-byte, marked-held, block-byte, name-agrees}
 use Rattle.name_open_close.proofs.NameChanges.{others-untouched, header-kept, updated}

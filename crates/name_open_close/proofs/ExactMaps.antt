@@ -29,8 +29,7 @@ use Rattle.pool.proofs.SoundNames.{open-blocks, name-distinct, held-inside}
 use Rattle.pool.proofs.Sums.{sumBelow-same, sumBelow-one, sumBelow-two}
 use Rattle.pool_check.proofs.Holders.{times-held, name-inside}
 use Rattle.pool_check.proofs.Readings.{zero-free, held-by}
-use Rattle.pool_holders.specs.Maps.{isFree, freeIn, Agrees, Entered}
-use Rattle.name_open_close.specs.Updates.{Exact}
+use Rattle.pool_holders.specs.Maps.{Exact, isFree, freeIn, Agrees, Entered}
 
 -- Counts as sums over places.
 rank-sum : (c : ℕ) (xs : List ℕ) (k : ℕ) → k ≤ length xs → rank c xs k ≡ sumBelow k (λ i. isMark c (getD xs i 0))

@@ -8,7 +8,7 @@ use native.Mathlib.Omega.{arith}
 use lib.ListN.{length, getD, set, length-set, List·getD-eq-default}
 use lib.Seq.{getD-set-same, getD-set-other}
 use Rattle.sequence.proofs.Counts.{isMark-cases}
-use Rattle.name_open_close.specs.Holders.{HolderFreed}
+use Rattle.pool_holders.specs.Maps.{HolderFreed}
 
 -- the holder's blocks below `passed` are free, and nothing else changed
 pub record FreedBelow (holder passed : ℕ) (m n : List ℕ) : Type 0 where

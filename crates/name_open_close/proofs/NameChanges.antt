@@ -26,8 +26,8 @@ use Rattle.pool.proofs.Changed.{directory-blocks}
 use Rattle.pool.proofs.Distincts.{standing-all}
 use Rattle.pool.proofs.NamesKept.{only-untouched}
 use Rattle.pool.proofs.SoundAfter.{sound-after}
-use Rattle.pool_holders.specs.Maps.{isFree}
-use Rattle.name_open_close.specs.Updates.{Exact, Updated}
+use Rattle.pool_holders.specs.Maps.{Exact, isFree}
+use Rattle.name_open_close.specs.Updates.{Updated}
 use Rattle.name_open_close.proofs.ExactMaps.{Turns, held-two, name-distinct-after, own-after, exact-after}
 
 -- Blocks changed, and then the name's record: p the pool before, q with the blocks, r with the record.

@@ -4,19 +4,13 @@ use mathlib.Core.List.{List}
 use Prim.Native.Nat.{ℕ, _≤_, _<_}
 use lib.ListN.{length}
 use Rattle.geometry.specs.Limits.{names, leastAlphabet, mostAlphabet}
-use Rattle.pool.specs.Bytes.{shares}
 use Rattle.pool.specs.Meaning.{meaningOf}
 use Rattle.pool.specs.Shares.{unpromisedShares}
 use Rattle.pool.specs.Sound.{ClosedName, OpenName, Sound}
 use Rattle.pool.specs.Untouched.{Untouched}
 use Rattle.protocol.specs.State.{Part}
 use Rattle.shape.specs.Trees.{Tree}
-use Rattle.pool_check.specs.Maps.{MapOf}
-
--- the map has a byte for each block of the pool: 0 where it is free, else its holder's name plus 1
-pub record Exact (p m : List ℕ) : Type 0 where
-  pub blocks : length m ≡ shares p
-  pub holders : MapOf p m
+use Rattle.pool_holders.specs.Maps.{Exact}
 
 -- a sound pool with its map, and one of its names
 pub record NameIn (p m : List ℕ) (name : ℕ) : Type 0 where

@@ -1,6 +1,6 @@
 // A name closed: its record is cleared, and all its blocks are free again.
 ghost use Rattle.protocol.specs.State.{closed};
-ghost use Rattle.name_open_close.specs.Holders.{HolderFreed};
+ghost use Rattle.pool_holders.specs.Maps.{HolderFreed};
 ghost use Rattle.name_open_close.specs.Updates.{CloseReady, Updated};
 use geometry::Record;
 use pool::write_record;

@@ -1,14 +1,16 @@
 -- Records of names: what the stores of one leave, and what leaves one alone.
-use mathlib.Core.Path.{_≡_, refl, sym, ap, _∙_}
+use mathlib.Core.Path.{_≡_, sym, ap, _∙_}
 use mathlib.Core.List.{List}
-use Prim.Native.Nat.{ℕ, zero, suc, _+_, _-_, _<_}
+use Prim.Native.Nat.{ℕ, zero, suc, _+_, _-_, _≤_, _<_}
 use native.Mathlib.Omega.{arith}
-use Rattle.geometry.specs.Layout.{recordSize, kindAt, alphabetAt, heightAt, zeroAt, qAt, rootAt, lengthAt, spareAt}
+use lib.ListN.{length as lengthOf}
+use Rattle.geometry.specs.Layout.{recordSize, kindAt, alphabetAt, heightAt, zeroAt, qAt, rootAt, lengthAt, spareAt, wordSize}
 use Rattle.geometry.specs.Records.{closedRecord}
 use Rattle.geometry.specs.declared.Record.{Record}
 use Rattle.pool.specs.Bytes.{byte, word, recordAt}
 use Rattle.pool.specs.Names.{recordOf}
-use Rattle.pool.specs.Records.{PutTags, PutNumbers, PutRecord}
+use Rattle.pool.specs.Changes.{Outside}
+use Rattle.pool.specs.Records.{PutFields, PutRecord}
 use Rattle.pool.specs.Sound.{ClosedName}
 use Rattle.pool.specs.Words.{WordAt, PutByte, PutWord, Cleared}
 use Rattle.pool.proofs.Words.{word-zero, low-zero, high-zero, word-in-stretch}
@@ -22,81 +24,70 @@ pub record-is : (p : List ℕ) (name : ℕ) (put : Record)
 unfolding recordOf
 record-is p name put kind alphabet height q root length = rw (kind, alphabet, height, q, root, length)
 
--- a record read field by field
-pub record-read : (p : List ℕ) (name q root length : ℕ) → WordAt p (recordAt name + qAt) q → WordAt p (recordAt name + rootAt) root
-    → WordAt p (recordAt name + lengthAt) length
+-- a record read field by field, from its address on
+pub record-read : (p : List ℕ) (name at q root length : ℕ) → at ≡ recordAt name
+    → WordAt p (at + qAt) q → WordAt p (at + rootAt) root → WordAt p (at + lengthAt) length
     → record {
-      kind = byte p (recordAt name + kindAt);
-      alphabet = byte p (recordAt name + alphabetAt);
-      height = byte p (recordAt name + heightAt);
+      kind = byte p (at + kindAt);
+      alphabet = byte p (at + alphabetAt);
+      height = byte p (at + heightAt);
       q = q;
       root = root;
       length = length;
     } ≡ recordOf p name
-record-read p name q root length a b c = sym (record-is p name _ refl refl refl (sym (a .is)) (sym (b .is)) (sym (c .is)))
+record-read p name at q root length place a b c =
+    sym
+    (record-is p name _ (rw place) (rw place) (rw place)
+    (sym (rw place at (a .is))) (sym (rw place at (b .is))) (sym (rw place at (c .is))))
 
--- the four bytes in front
-pub tags-put : (at : ℕ) (put : Record) (p p₁ p₂ p₃ p₄ : List ℕ)
-    → PutByte (at + kindAt) (put .kind) p p₁ → PutByte (at + alphabetAt) (put .alphabet) p₁ p₂
-    → PutByte (at + heightAt) (put .height) p₂ p₃ → PutByte (at + zeroAt) 0 p₃ p₄
-    → PutTags at put p p₄
-tags-put at put p p₁ p₂ p₃ p₄ kind alphabet height last =
+-- a change of the bytes at an offset, and then changes of those behind it, up to the spare ones
+change-then : (at i many j : ℕ) {p q r : List ℕ} → i ≤ j → i + many ≤ spareAt → j ≤ spareAt
+    → Outside (at + i) many p q → Outside (at + j) (spareAt - j) q r → Outside (at + i) (spareAt - i) p r
+change-then at i many j order fits fits' f g =
+    outside-then (outside-wider (at + i) (spareAt - i) (omega arith) (omega arith) f)
+    (outside-wider (at + i) (spareAt - i) (omega arith) (omega arith) g)
+
+-- the stores of the fields in turn: each is left alone by those behind it
+module _ (at : ℕ) (put : Record) (p p₁ p₂ p₃ p₄ p₅ p₆ : List ℕ)
+    (kind : PutByte (at + kindAt) (put .kind) p p₁) (alphabet : PutByte (at + alphabetAt) (put .alphabet) p₁ p₂)
+    (height : PutByte (at + heightAt) (put .height) p₂ p₃) (q : PutWord (at + qAt) (put .q) p₃ p₄)
+    (root : PutWord (at + rootAt) (put .root) p₄ p₅) (length : PutWord (at + lengthAt) (put .length) p₅ p₆) where
+  pub fields-put : PutFields at put p p₆
+  fields-put =
+      let behindQ = change-then at rootAt wordSize lengthAt (omega arith) (omega arith) (omega arith) (root .same) (length .same) in
+      let behindHeight = change-then at qAt wordSize rootAt (omega arith) (omega arith) (omega arith) (q .same) behindQ in
+      let behindAlphabet = change-then at heightAt 1 qAt (omega arith) (omega arith) (omega arith) (height .same) behindHeight in
+      let behindKind = change-then at alphabetAt 1 heightAt (omega arith) (omega arith) (omega arith) (alphabet .same) behindAlphabet in
+      let all = change-then at kindAt 1 alphabetAt (omega arith) (omega arith) (omega arith) (kind .same) behindKind in
+      record {
+        same = outside-wider at spareAt (omega arith) (omega arith) all;
+        kind = behindKind .low (at + kindAt) (omega arith) ∙ kind .put;
+        alphabet = behindAlphabet .low (at + alphabetAt) (omega arith) ∙ alphabet .put;
+        height = behindHeight .low (at + heightAt) (omega arith) ∙ height .put;
+        zeroByte =
+            behindHeight .low (at + zeroAt) (omega arith) ∙ height .same .high (at + zeroAt) (omega arith)
+            ∙ alphabet .same .high (at + zeroAt) (omega arith) ∙ kind .same .high (at + zeroAt) (omega arith);
+        q = word-before behindQ (at + qAt) (omega arith) ∙ q .put;
+        root = word-before (length .same) (at + rootAt) (omega arith) ∙ root .put;
+        length = length .put;
+      }
+
+  pub fields-long : lengthOf p₆ ≡ lengthOf p
+  fields-long = fields-put .same .long
+
+-- all bytes of a record: zeros, and its fields
+pub record-put : (name at : ℕ) (put : Record) (p q r : List ℕ) → at ≡ recordAt name → Cleared at recordSize p q → PutFields at put q r
+    → PutRecord name put p r
+record-put name at put p q r place zeros fields =
     record {
       same =
-          outside-then (outside-wider at qAt (omega arith) (omega arith) (kind .same))
-          (outside-then (outside-wider at qAt (omega arith) (omega arith) (alphabet .same))
-          (outside-then (outside-wider at qAt (omega arith) (omega arith) (height .same))
-          (outside-wider at qAt (omega arith) (omega arith) (last .same))));
-      kind =
-          last .same .low (at + kindAt) (omega arith)
-          ∙ height .same .low (at + kindAt) (omega arith)
-          ∙ alphabet .same .low (at + kindAt) (omega arith)
-          ∙ kind .put;
-      alphabet =
-          last .same .low (at + alphabetAt) (omega arith) ∙ height .same .low (at + alphabetAt) (omega arith) ∙ alphabet .put;
-      height = last .same .low (at + heightAt) (omega arith) ∙ height .put;
-      zeroByte = last .put;
-    }
-
--- the three words
-pub numbers-put : (at : ℕ) (put : Record) (p p₁ p₂ p₃ : List ℕ)
-    → PutWord (at + qAt) (put .q) p p₁ → PutWord (at + rootAt) (put .root) p₁ p₂ → PutWord (at + lengthAt) (put .length) p₂ p₃
-    → PutNumbers at put p p₃
-numbers-put at put p p₁ p₂ p₃ q root length =
-    record {
-      same =
-          outside-then (outside-wider (at + qAt) (spareAt - qAt) (omega arith) (omega arith) (q .same))
-          (outside-then (outside-wider (at + qAt) (spareAt - qAt) (omega arith) (omega arith) (root .same))
-          (outside-wider (at + qAt) (spareAt - qAt) (omega arith) (omega arith) (length .same)));
-      q = word-before (length .same) (at + qAt) (omega arith) ∙ word-before (root .same) (at + qAt) (omega arith) ∙ q .put;
-      root = word-before (length .same) (at + rootAt) (omega arith) ∙ root .put;
-      length = length .put;
-    }
-
--- all bytes of a record
-pub record-put : (name : ℕ) (put : Record) (p p₁ p₂ p₃ : List ℕ) → PutTags (recordAt name) put p p₁ → PutNumbers (recordAt name) put p₁ p₂
-    → Cleared (recordAt name + spareAt) (recordSize - spareAt) p₂ p₃
-    → PutRecord name put p p₃
-record-put name put p p₁ p₂ p₃ tags numbers zeros =
-    let at = recordAt name in
-    record {
-      same =
-          outside-then (outside-wider at recordSize (omega arith) (omega arith) (tags .same))
-          (outside-then (outside-wider at recordSize (omega arith) (omega arith) (numbers .same))
-          (outside-wider at recordSize (omega arith) (omega arith) (zeros .same)));
+          outside-then (outside-wider (recordAt name) recordSize (omega arith) (omega arith) (zeros .same))
+          (outside-wider (recordAt name) recordSize (omega arith) (omega arith) (fields .same));
       is =
-          record-is p₃ name put
-          (zeros .same .low (at + kindAt) (omega arith) ∙ numbers .same .low (at + kindAt) (omega arith) ∙ tags .kind)
-          (zeros .same .low (at + alphabetAt) (omega arith) ∙ numbers .same .low (at + alphabetAt) (omega arith) ∙ tags .alphabet)
-          (zeros .same .low (at + heightAt) (omega arith) ∙ numbers .same .low (at + heightAt) (omega arith) ∙ tags .height)
-          (word-before (zeros .same) (at + qAt) (omega arith) ∙ numbers .q)
-          (word-before (zeros .same) (at + rootAt) (omega arith) ∙ numbers .root)
-          (word-before (zeros .same) (at + lengthAt) (omega arith) ∙ numbers .length);
-      zeroByte =
-          zeros .same .low (at + zeroAt) (omega arith) ∙ numbers .same .low (at + zeroAt) (omega arith) ∙ tags .zeroByte;
-      spare = λ j front back.
-          let e : at + j ≡ at + spareAt + (j - spareAt) = omega arith in
-          rw e (zeros .zeros (j - spareAt) (omega arith));
+          record-is r name put (rw place at (fields .kind)) (rw place at (fields .alphabet)) (rw place at (fields .height))
+          (rw place at (fields .q)) (rw place at (fields .root)) (rw place at (fields .length));
+      zeroByte = rw place at (fields .zeroByte ∙ zeros .zeros zeroAt (omega arith));
+      spare = λ j front back. rw place at (fields .same .high (at + j) (omega arith) ∙ zeros .zeros j back);
     }
 
 -- the record of a closed name, written, is zeros

@@ -1,7 +1,7 @@
 -- What reads of words give, and what single stores leave.
 use mathlib.Core.Path.{_≡_}
 use mathlib.Core.List.{List}
-use Prim.Native.Nat.{ℕ, _+_, _<_}
+use Prim.Native.Nat.{ℕ, _+_, _^_, _<_}
 use Rattle.geometry.specs.Layout.{wordSize}
 use Rattle.pool.specs.Bytes.{byte, word}
 use Rattle.pool.specs.Changes.{Outside}
@@ -13,6 +13,10 @@ byteLimit = 256
 -- what a word holds is below this
 abbrev pub wordLimit : ℕ
 wordLimit = 65536
+
+-- what an address is below
+abbrev pub addressLimit : ℕ
+addressLimit = 2 ^ 64
 
 -- a byte, as a number to reckon with
 pub record Wide (x r : ℕ) : Type 0 where

@@ -10,12 +10,14 @@ use Rattle.geometry.specs.Layout.{formAt, countAt}
 use Rattle.pool.specs.Blocks.{formOf, entries}
 use Rattle.pool.specs.Bytes.{shares, blockAt}
 use Rattle.pool.specs.Changes.{Outside, Only}
-use Rattle.pool.specs.Words.{WordAt, PutWord, Moved}
+use Rattle.pool.specs.Words.{PutWord, Moved}
 use Rattle.pool.proofs.Changed.{only-block, only-then, word-behind}
 use Rattle.pool.proofs.Cuts.{cut-length, cut-before, cut-behind, cut-moved, cut-two}
+use Rattle.pool_entries.specs.Summaries.{Is}
 use Rattle.pool_blocks.specs.Contents.{contents, Room}
 use Rattle.pool_blocks.specs.Moves.{Opened, Closed}
 use Rattle.pool_blocks.proofs.Products.{Measured, measured}
+use Rattle.pool_blocks.proofs.EntryMoves.{moved-as}
 use Rattle.pool_blocks.proofs.Stretches.{drop-stretch, cut-three, contents-is}
 
 -- a move within a block's entries, and then another count
@@ -29,16 +31,17 @@ module _ (b from to bytes put : ℕ) (p q r : List ℕ) (low : blockAt b ≤ to)
   moved-form = w .same .low (blockAt b + formAt) (omega arith) ∙ m .same .high (blockAt b + formAt) high
 
 module _ (unit b k many : ℕ) (p q r : List ℕ) (inside : b < shares p) where
-  pub gap-opened : k ≤ entries p b → Room unit (entries p b + 1) → WordAt p (blockAt b + countAt) many
-      → Moved (blockAt b + unit * k) (blockAt b + unit * k + unit) (unit * many - unit * k) p q
+  pub gap-opened : k ≤ entries p b → Room unit (entries p b + 1) → Is (entries p b) many
+      → Moved (blockAt b + unit * k) (blockAt b + unit * (k + 1)) (unit * (many - k)) p q
       → PutWord (blockAt b + countAt) (many + 1) q r
       → Opened unit b k p r
-  gap-opened less room is m w =
+  gap-opened less room is moved w =
       let a = blockAt b in
       let front = unit * k in
       let used = unit * many in
       let fits : Measured unit (k + 1) (many + 1) = measured unit (k + 1) (entries p b + 1) (many + 1) (omega (arith, is .is)) (omega arith) room in
       let rest = used - front in
+      let m : Moved (a + front) (a + front + unit) rest p q = moved-as refl (omega arith) (mul-sub unit many k) moved in
       let sum : unit * (many + 1) ≡ front + (unit + rest) = omega arith in
       let was : contents unit p b ≡ take used (drop a p) = contents-is unit p b many used (sym (is .is)) refl in
       record {
@@ -55,16 +58,17 @@ module _ (unit b k many : ℕ) (p q r : List ℕ) (inside : b < shares p) where
             ∙ sym (drop-stretch p a front used (omega arith) (omega arith)) ∙ ap (drop front) (sym was));
       }
 
-  pub gap-closed : k < entries p b → Room unit (entries p b) → WordAt p (blockAt b + countAt) many
-      → Moved (blockAt b + unit * k + unit) (blockAt b + unit * k) (unit * many - (unit * k + unit)) p q
+  pub gap-closed : k < entries p b → Room unit (entries p b) → Is (entries p b) many
+      → Moved (blockAt b + unit * (k + 1)) (blockAt b + unit * k) (unit * (many - (k + 1))) p q
       → PutWord (blockAt b + countAt) (many - 1) q r
       → Closed unit b k p r
-  gap-closed less room is m w =
+  gap-closed less room is moved w =
       let a = blockAt b in
       let front = unit * k in
       let used = unit * many in
       let fits : Measured unit (k + 1) many = measured unit (k + 1) (entries p b) many (is .is) (omega arith) room in
       let rest = used - (front + unit) in
+      let m : Moved (a + front + unit) (a + front) rest p q = moved-as (omega arith) refl (omega (arith, mul-sub unit many (k + 1))) moved in
       let sum : unit * (many - 1) ≡ front + rest = omega (arith, mul-sub unit many 1) in
       let was : contents unit p b ≡ take used (drop a p) = contents-is unit p b many used (sym (is .is)) refl in
       let behind : a + front + unit ≡ a + (front + unit) = omega arith in

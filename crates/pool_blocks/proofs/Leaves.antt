@@ -6,15 +6,17 @@ use native.Mathlib.Nat.{one-mul}
 use native.Mathlib.Omega.{arith}
 use lib.ListN.{length, take, drop, length-append}
 use Rattle.geometry.specs.Layout.{formAt, countAt, mostLeaf}
+use Rattle.geometry.specs.Limits.{blockSize}
 use Rattle.sequence.specs.Definition1.{access, select, insert, delete}
 use Rattle.shape.specs.Level.{middle, halves}
 use Rattle.pool.specs.Blocks.{entries, leafMarks}
 use Rattle.pool.specs.Bytes.{byte, blockAt}
 use Rattle.pool.specs.Changes.{Outside}
-use Rattle.pool.specs.Words.{WordAt, PutByte}
+use Rattle.pool.specs.Words.{byteLimit, addressLimit, PutByte}
 use Rattle.pool.proofs.Changed.{only-block, only-then, word-behind}
 use Rattle.pool.proofs.Cuts.{cut-length, cut-byte, cut-one}
-use Rattle.pool_blocks.specs.Contents.{contents, LeafAt}
+use Rattle.pool_entries.specs.Summaries.{Is}
+use Rattle.pool_blocks.specs.Contents.{contents, Room, LeafAt}
 use Rattle.pool_blocks.specs.Moves.{Opened, Closed, CutOff, Joined, SharedOut}
 use Rattle.pool_blocks.specs.Leaves.{MarkInserted, MarkDeleted, LeafCut, LeavesJoined, LeavesShared}
 use Rattle.pool_blocks.proofs.Gaps.{gap-filled}
@@ -29,28 +31,57 @@ module _ (p : List ℕ) (b : ℕ) (leaf : LeafAt p b) where
   unfolding leafMarks
   leaf-size = cut-length p (blockAt b) (entries p b) (omega (arith, leaf .inside, leaf .fits))
 
-  pub size-is : (r : ℕ) → WordAt p (blockAt b + countAt) r → r ≡ length (leafMarks p b)
+  pub size-is : (r : ℕ) → Is (entries p b) r → r ≡ length (leafMarks p b)
   size-is r is = is .is ∙ sym leaf-size
 
-  pub mark-is : (i : ℕ) → 1 ≤ i → i ≤ length (leafMarks p b) → byte p (blockAt b + (i - 1)) ≡ access (leafMarks p b) i
-  unfolding leafMarks access
-  mark-is i one within = sym (cut-byte p (blockAt b) (entries p b) (i - 1) (omega (arith, leaf-size)))
+  -- places of the leaf's marks, as bytes and as numbers of entries
+  module _ (i : ℕ) (within : i ≤ length (leafMarks p b)) where
+    pub place-few : i ≤ blockSize
+    place-few = omega (arith, leaf-size, leaf .fits)
 
-  pub found-is : (n c j r : ℕ) → WordAt p (blockAt b + countAt) n → r ≡ select c (take (blockAt b + n - blockAt b) (drop (blockAt b) p)) j
-      → r ≡ select c (leafMarks p b) j
-  unfolding leafMarks
-  found-is n c j r is found =
-      let e : blockAt b + n - blockAt b ≡ entries p b = omega (arith, is .is) in
-      found ∙ ap (λ (k : ℕ). select c (take k (drop (blockAt b) p)) j) e
+    pub place-small : i < byteLimit
+    place-small = omega (arith, place-few)
+
+    pub entries-within : i ≤ entries p b
+    entries-within = omega (arith, leaf-size)
+
+    pub entry-of : 1 ≤ i → i - 1 < entries p b
+    entry-of one = omega (arith, leaf-size)
+
+    module _ (at : ℕ) (place : at ≡ blockAt b) where
+      pub mark-inside : at + (i - 1) < length p
+      mark-inside = omega (arith, leaf .inside, place-few)
+
+      pub mark-addressed : length p < addressLimit → at + (i - 1) < addressLimit
+      mark-addressed fits = omega (arith, mark-inside)
+
+  -- and of one more
+  pub entry-new : (i : ℕ) → i ≤ length (leafMarks p b) + 1 → i - 1 ≤ entries p b
+  entry-new i within = omega (arith, leaf-size)
+
+  pub room-new : length (leafMarks p b) < mostLeaf → Room 1 (entries p b + 1)
+  room-new room = record { few = omega (arith, leaf-size); fits = omega (arith, leaf-size) }
+
+  module _ (at : ℕ) (place : at ≡ blockAt b) where
+    pub mark-is : (i : ℕ) → 1 ≤ i → i ≤ length (leafMarks p b) → byte p (at + (i - 1)) ≡ access (leafMarks p b) i
+    unfolding leafMarks access
+    mark-is i one within = rw place (sym (cut-byte p (blockAt b) (entries p b) (i - 1) (omega (arith, leaf-size))))
+
+    pub found-is : (n c j r : ℕ) → Is (entries p b) n → r ≡ select c (take (at + n - at) (drop at p)) j → r ≡ select c (leafMarks p b) j
+    unfolding leafMarks
+    found-is n c j r is found =
+        let e : at + n - at ≡ entries p b = omega (arith, is .is) in
+        found ∙ ap₂ (λ (k a : ℕ). select c (take k (drop a p)) j) e place
 
 -- the edits
 
 module _ (b i : ℕ) (p q : List ℕ) (leaf : LeafAt p b) (one : 1 ≤ i) where
-  pub mark-inserted : (c : ℕ) (r : List ℕ) → i ≤ length (leafMarks p b) + 1 → length (leafMarks p b) < mostLeaf
-      → Opened 1 b (i - 1) p q → PutByte (blockAt b + (i - 1)) c q r → MarkInserted b i c p r
+  pub mark-inserted : (c at : ℕ) (r : List ℕ) → at ≡ blockAt b → i ≤ length (leafMarks p b) + 1 → length (leafMarks p b) < mostLeaf
+      → Opened 1 b (i - 1) p q → PutByte (at + (i - 1)) c q r → MarkInserted b i c p r
   unfolding insert
-  mark-inserted c r within room opened put =
+  mark-inserted c at r place within room opened stored =
       let a = blockAt b in
+      let put : PutByte (a + (i - 1)) c q r = rw place at stored in
       let size : length (leafMarks p b) ≡ entries p b = leaf-size p b leaf in
       let o : Outside (a + 1 * (i - 1)) 1 q r = rw one-mul (put .same) in
       let inside : a + (i - 1) < length r = omega (arith, put .same .long, opened .only .long, leaf .inside) in
@@ -75,6 +106,16 @@ module _ (b i : ℕ) (p q : List ℕ) (leaf : LeafAt p b) (one : 1 ≤ i) where
         taken = taken;
         marks = sym (leaf-contents q b) ∙ closed .bytes ∙ rw (e, one-mul (i - 1), leaf-contents p b);
       }
+
+-- room for the marks of two leaves
+pub room-both : (p : List ℕ) (left right : ℕ) → LeafAt p left → LeafAt p right
+    → length (leafMarks p left) + length (leafMarks p right) ≤ mostLeaf
+    → Room 1 (entries p left + entries p right)
+room-both p left right here there room =
+    record {
+      few = omega (arith, leaf-size p left here, leaf-size p right there);
+      fits = omega (arith, leaf-size p left here, leaf-size p right there);
+    }
 
 pub leaf-cut : (b new cut : ℕ) (p q : List ℕ) → CutOff 1 b new cut p q → LeafCut b new cut p q
 leaf-cut b new cut p q off =

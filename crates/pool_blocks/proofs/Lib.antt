@@ -1,4 +1,5 @@
 pub mod Products
+pub mod EntryMoves
 pub mod Stretches
 pub mod Gaps
 pub mod Parts

@@ -12,24 +12,27 @@ use Rattle.geometry.specs.Limits.{blockSize}
 use Rattle.pool.specs.Blocks.{entries}
 use Rattle.pool.specs.Bytes.{shares, blockAt}
 use Rattle.pool.specs.Changes.{Only}
-use Rattle.pool.specs.Words.{WordAt, PutByte, PutWord, Moved}
+use Rattle.pool.specs.Words.{PutByte, PutWord, Moved}
 use Rattle.pool.proofs.Changed.{outside-then, outside-wider, only-block, only-then, only-wider, word-other}
 use Rattle.pool.proofs.Cuts.{cut-before, cut-moved, cut-two}
+use Rattle.pool_entries.specs.Summaries.{Is}
 use Rattle.pool_blocks.specs.Contents.{contents, Room, Apart}
 use Rattle.pool_blocks.specs.Moves.{PutTrailer, Emptied, CutOff, Joined}
 use Rattle.pool_blocks.proofs.Products.{Measured, measured}
+use Rattle.pool_blocks.proofs.EntryMoves.{moved-as}
 use Rattle.pool_blocks.proofs.Stretches.{drop-stretch, contents-is, start-other}
 use Rattle.pool_blocks.proofs.Gaps.{moved-only, moved-form}
 
 -- form and count make a trailer
-pub trailer-put : (b many : ℕ) (p q r : List ℕ) → PutByte (blockAt b + formAt) formMarks p q → PutWord (blockAt b + countAt) many q r
+pub trailer-put : (b at many : ℕ) (p q r : List ℕ) → at ≡ blockAt b → PutByte (at + formAt) formMarks p q
+    → PutWord (blockAt b + countAt) many q r
     → PutTrailer b many p r
-trailer-put b many p q r form count =
+trailer-put b at many p q r place form count =
     record {
       same =
           outside-then (outside-wider (blockAt b + formAt) (blockSize - formAt) (omega arith) (omega arith) (form .same))
           (outside-wider (blockAt b + formAt) (blockSize - formAt) (omega arith) (omega arith) (count .same));
-      form = count .same .low (blockAt b + formAt) (omega arith) ∙ form .put;
+      form = count .same .low (blockAt b + formAt) (omega arith) ∙ rw place at (form .put);
       many = count .put;
     }
 
@@ -40,18 +43,19 @@ emptied b p q put = record { only = only-block (put .same) b (omega arith) (omeg
 -- a block's entries behind the first so many, moved to another block
 pub part-cut : (unit b new cut many : ℕ) (p p₁ p₂ p₃ : List ℕ)
     → Apart p b new → cut ≤ entries p b → Room unit (entries p b)
-    → WordAt p (blockAt b + countAt) many
-    → Moved (blockAt b + unit * cut) (blockAt new) (unit * many - unit * cut) p p₁
+    → Is (entries p b) many
+    → Moved (blockAt b + unit * cut) (blockAt new + unit * 0) (unit * (many - cut)) p p₁
     → PutWord (blockAt b + countAt) cut p₁ p₂
     → PutTrailer new (many - cut) p₂ p₃
     → CutOff unit b new cut p p₃
-part-cut unit b new cut many p p₁ p₂ p₃ two less room is m w t =
+part-cut unit b new cut many p p₁ p₂ p₃ two less room is part w t =
     let apart : b ≡ new → ⊥ = two .apart in
     let a = blockAt b in
     let front = unit * cut in
     let used = unit * many in
     let fits : Measured unit cut many = measured unit cut (entries p b) many (is .is) less room in
     let was : contents unit p b ≡ take used (drop a p) = contents-is unit p b many used (sym (is .is)) refl in
+    let m : Moved (a + front) (blockAt new) (used - front) p p₁ = moved-as refl (omega arith) (mul-sub unit many cut) part in
     let moved : Only (λ x. x ≡ new) p p₁ = only-block (m .same) new (omega arith) (omega arith) in
     let told : Only (λ x. x ≡ b) p₁ p₂ = only-block (w .same) b (omega arith) (omega arith) in
     let ended : Only (λ x. x ≡ new) p₂ p₃ = only-block (t .same) new (omega arith) (omega arith) in
@@ -86,17 +90,18 @@ part-cut unit b new cut many p p₁ p₂ p₃ two less room is m w t =
 -- a block's entries, moved behind another's
 pub parts-joined : (unit left right here there : ℕ) (p q r : List ℕ)
     → left < shares p → right < shares p → Room unit (entries p left + entries p right)
-    → WordAt p (blockAt left + countAt) here → WordAt p (blockAt right + countAt) there
-    → Moved (blockAt right) (blockAt left + unit * here) (unit * there) p q
+    → Is (entries p left) here → Is (entries p right) there
+    → Moved (blockAt right + unit * 0) (blockAt left + unit * here) (unit * there) p q
     → PutWord (blockAt left + countAt) (here + there) q r
     → Joined unit left right p r
-parts-joined unit left right here there p q r inside inside' room is is' m w =
+parts-joined unit left right here there p q r inside inside' room is is' part w =
     let a = blockAt left in
     let l = unit * here in
     let n = unit * there in
     let fits : Measured unit here (here + there) =
     measured unit here (entries p left + entries p right) (here + there) (omega (arith, is .is, is' .is)) (omega (arith, is .is)) room
     in
+    let m : Moved (blockAt right) (a + l) n p q = moved-as (omega arith) refl refl part in
     let sum : unit * (here + there) ≡ l + n = omega arith in
     record {
       only = moved-only left (blockAt right) (a + l) n (here + there) p q r (omega arith) (omega arith) m w;

@@ -34,6 +34,13 @@ pub record Room (unit many : ℕ) : Type 0 where
   pub few : many ≤ formAt
   pub fits : unit * many ≤ formAt
 
+-- so many entries of a block, from number i on, and room for them in another, from number j on
+pub record Movable (p : List ℕ) (unit from i to j many : ℕ) : Type 0 where
+  pub fromInside : from < shares p
+  pub toInside : to < shares p
+  pub stand : Room unit (i + many)
+  pub fit : Room unit (j + many)
+
 -- two blocks of the pool
 pub record Apart (p : List ℕ) (left right : ℕ) : Type 0 where
   pub leftInside : left < shares p

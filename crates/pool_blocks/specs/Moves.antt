@@ -57,6 +57,18 @@ pub record Joined (unit left right : ℕ) (before after : List ℕ) : Type 0 whe
   pub many : entries after left ≡ entries before left + entries before right
   pub bytes : contents unit after left ≡ contents unit before left ++ contents unit before right
 
+-- the bytes of two blocks' entries, moved so that the left block has the first so many entries; their numbers aren't said yet
+pub record Refilled (unit left right many : ℕ) (before after : List ℕ) : Type 0 where
+  pub only : Only (λ x. (x ≡ left) ⊎ (x ≡ right)) before after
+  pub leftForm : formOf after left ≡ formOf before left
+  pub rightForm : formOf after right ≡ formOf before right
+  pub leftBytes :
+      take (unit * many) (drop (blockAt left) after)
+      ≡ take (unit * many) (contents unit before left ++ contents unit before right)
+  pub rightBytes :
+      take (unit * (entries before left + entries before right - many)) (drop (blockAt right) after)
+      ≡ drop (unit * many) (contents unit before left ++ contents unit before right)
+
 -- the entries of two blocks, cut anew: the left one has so many of them
 pub record Recut (unit left right many : ℕ) (before after : List ℕ) : Type 0 where
   pub only : Only (λ x. (x ≡ left) ⊎ (x ≡ right)) before after

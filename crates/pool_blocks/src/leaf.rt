@@ -14,8 +14,9 @@ use crate::moves::join;
 use crate::moves::open_gap;
 use crate::moves::share_out;
 use geometry::Record;
+use pool::block_at;
 use pool::put_byte;
-use pool::word;
+use pool_entries::entry_count;
 use sequence::count_in;
 use sequence::find;
 
@@ -27,10 +28,7 @@ pub fn size(pool: &[u8], b: usize) -> usize
     requires { ⌜ LeafAt (now pool) b ⌝ }
     ensures { λ r. ⌜ r ≡ length (leafMarks (now (pool .entry)) b) ⌝ }
 {
-    word(
-        pool,
-        Record::DIRECTORY_SIZE + Record::BLOCK_SIZE * b + Record::COUNT_AT,
-    )
+    entry_count(pool, b)
 }
 
 // The mark at place i.
@@ -38,7 +36,7 @@ pub fn mark_at(pool: &[u8], b: usize, i: usize) -> u8
     requires { ⌜ LeafAt (now pool) b × (1 ≤ i) × (i ≤ length (leafMarks (now pool) b)) ⌝ }
     ensures { λ r. ⌜ r ≡ access (leafMarks (now (pool .entry)) b) i ⌝ }
 {
-    let at = Record::DIRECTORY_SIZE + Record::BLOCK_SIZE * b;
+    let at = block_at(b);
     pool[at + (i - 1)]
 }
 
@@ -48,7 +46,7 @@ pub fn count_marks(pool: &[u8], b: usize, c: u8, i: usize) -> usize
     requires { ⌜ LeafAt (now pool) b × (i ≤ length (leafMarks (now pool) b)) ⌝ }
     ensures { λ r. ⌜ r ≡ rank c (leafMarks (now (pool .entry)) b) i ⌝ }
 {
-    let at = Record::DIRECTORY_SIZE + Record::BLOCK_SIZE * b;
+    let at = block_at(b);
     let behind = Record::BLOCK_SIZE as u8 - i as u8;
     let mut left = Record::BLOCK_SIZE as u8;
     let mut met: u8 = 0;
@@ -70,8 +68,8 @@ pub fn find_mark(pool: &[u8], b: usize, c: u8, j: usize) -> usize
     requires { ⌜ LeafAt (now pool) b ⌝ }
     ensures { λ r. ⌜ r ≡ select c (leafMarks (now (pool .entry)) b) j ⌝ }
 {
-    let at = Record::DIRECTORY_SIZE + Record::BLOCK_SIZE * b;
-    let end = at + word(pool, at + Record::COUNT_AT);
+    let at = block_at(b);
+    let end = at + entry_count(pool, b);
     let mut start = at;
     let mut left = j;
     while start + STRIDE <= end {
@@ -92,11 +90,7 @@ pub fn insert_mark(pool: &mut [u8], b: usize, i: usize, c: u8)
     ensures { λ _. ⌜ MarkInserted b i c (now (pool .entry)) (now (pool .exit)) ⌝ }
 {
     open_gap(pool, b, 1, i - 1);
-    put_byte(
-        pool,
-        Record::DIRECTORY_SIZE + Record::BLOCK_SIZE * b + (i - 1),
-        c,
-    );
+    put_byte(pool, block_at(b) + (i - 1), c);
 }
 
 // Takes place i out, and answers the mark that stood there.
@@ -111,7 +105,8 @@ pub fn delete_mark(pool: &mut [u8], b: usize, i: usize) -> u8
 
 // Moves the marks behind the first `cut` to the block `new`.
 pub fn cut_leaf(pool: &mut [u8], b: usize, new: usize, cut: usize)
-    requires { ⌜ LeafAt (now pool) b × (new < shares (now pool)) × (b ≡ new → ⊥) × (cut ≤ length (leafMarks (now pool) b)) ⌝ }
+    requires { ⌜ LeafAt (now pool) b × (new < shares (now pool)) × (b ≡ new → ⊥)
+        × (cut ≤ length (leafMarks (now pool) b)) ⌝ }
     ensures { λ _. ⌜ LeafCut b new cut (now (pool .entry)) (now (pool .exit)) ⌝ }
 {
     cut_off(pool, b, new, 1, cut);

@@ -12,7 +12,7 @@ use Rattle.pool.specs.Shares.{promisedShares}
 use Rattle.pool.specs.Sound.{LengthAllowed, SoundHeader, Distinct, Sound}
 use Rattle.sequence.proofs.Items.{all-map}
 use Rattle.sequence.specs.Alphabet.{AllBelow}
-use Rattle.pool_check.specs.Maps.{New, mapTo, WalkedNames}
+use Rattle.pool_check.specs.Walks.{New, mapTo, WalkedNames}
 use Rattle.pool_check.specs.Parts.{SoundName, Checked}
 use Rattle.pool_check.specs.Says.{Says}
 use Rattle.pool_check.proofs.Deciding.{never, say-no, say-same, denied}
@@ -41,13 +41,13 @@ module _ (p after : List ℕ) where
   pub header-refused : (r : Bool) → Says r (SoundHeader p) → r ≡ false → Checked p false after
   header-refused r header failed = refused p after (λ s. denied header failed (s .header))
 
-  pub over-promised : (sum : ℕ) → sum ≡ promisedShares p → shares p < sum → Checked p false after
-  over-promised sum so over = refused p after (λ s. omega (arith, s .promised))
+  pub over-promised : (sum all : ℕ) → sum ≡ promisedShares p → all ≡ shares p → all < sum → Checked p false after
+  over-promised sum all so has over = refused p after (λ s. omega (arith, s .promised))
 
   -- the names, walked with a clear map
   module _ (fresh : List ℕ) (long : length fresh ≡ mostShares) (clear : (b : ℕ) → getD fresh b 0 ≡ 0)
-      (a h r : Bool) (sum : ℕ) (allowed : Says a (LengthAllowed (length p))) (fits : a ≡ true) (header : Says h (SoundHeader p)) (headed : h ≡ true)
-      (so : sum ≡ promisedShares p) (promised : sum ≤ shares p) (walked : WalkedNames r (SoundName p) p names fresh after) where
+      (a h r : Bool) (sum all : ℕ) (allowed : Says a (LengthAllowed (length p))) (fits : a ≡ true) (header : Says h (SoundHeader p)) (headed : h ≡ true)
+      (so : sum ≡ promisedShares p) (has : all ≡ shares p) (promised : sum ≤ all) (walked : WalkedNames r (SoundName p) p names fresh after) where
     short : shares p ≤ length fresh
     short = omega (arith, allowed .sound fits)
 

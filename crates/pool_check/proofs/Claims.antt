@@ -145,7 +145,7 @@ module _ (p : List ℕ) (b k leaf alphabet : ℕ) where
     module _ (inside : leaf < shares p) (fits : entries p leaf ≤ mostLeaf) (low : alphabet ≤ mostAlphabet) (sum : ℕ)
         (so : sum ≡ sumBelow mostAlphabet (countBelow p b k)) where
       long : length (leafMarks p leaf) ≡ many
-      long = length-marks p leaf alphabet many inside (size .is) (omega (arith, size .is))
+      long = length-marks p leaf many inside (size .is) (omega (arith, size .is))
 
       pub other-sum : (sum ≡ many → ⊥) → Says false (Matches p alphabet 0 b k leaf)
       other-sum other =

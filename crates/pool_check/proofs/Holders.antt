@@ -19,7 +19,8 @@ use Rattle.pool.proofs.Sums.{sumBelow-one, sumBelow-two}
 use Rattle.sequence.proofs.Measures.{count-additive}
 use Rattle.sequence.specs.Alphabet.{AllBelow, sumBelow}
 use Rattle.sequence.specs.Definition1.{count}
-use Rattle.pool_check.specs.Maps.{New, mapTo, MapOf}
+use Rattle.pool_holders.specs.Maps.{MapOf}
+use Rattle.pool_check.specs.Walks.{New, mapTo}
 use Rattle.pool_check.specs.Parts.{SoundName}
 use Rattle.pool_check.proofs.Marked.{meet-length, meet-other, meet-same, new-clear, new-distinct, distinct-new}
 

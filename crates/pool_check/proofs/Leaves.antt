@@ -19,34 +19,38 @@ use Rattle.pool_check.specs.Says.{Says}
 use Rattle.pool_check.proofs.Deciding.{say-yes, say-no}
 use Rattle.pool_entries.proofs.Levels.{most-leaf}
 
--- so many marks from the front are below the alphabet's size
+-- so many bytes from an address on are below the alphabet's size
 abbrev pub BelowTo : List ℕ → ℕ → ℕ → ℕ → Type 0
-BelowTo p b alphabet i = (j : ℕ) → j < i → byte p (blockAt b + j) < alphabet
+BelowTo p at alphabet i = (j : ℕ) → j < i → byte p (at + j) < alphabet
 
-module _ (p : List ℕ) (b alphabet : ℕ) where
-  pub below-start : BelowTo p b alphabet 0
-  below-start = below-none (λ j. byte p (blockAt b + j) < alphabet)
+module _ (p : List ℕ) (at alphabet : ℕ) where
+  pub below-start : BelowTo p at alphabet 0
+  below-start = below-none (λ j. byte p (at + j) < alphabet)
 
-  pub below-next : (i : ℕ) → BelowTo p b alphabet i → byte p (blockAt b + i) < alphabet → BelowTo p b alphabet (i + 1)
-  below-next i before here = below-more (λ j. byte p (blockAt b + j) < alphabet) i before here
+  pub below-next : (i : ℕ) → BelowTo p at alphabet i → byte p (at + i) < alphabet → BelowTo p at alphabet (i + 1)
+  below-next i before here = below-more (λ j. byte p (at + j) < alphabet) i before here
 
-  module _ (many : ℕ) (inside : b < shares p) (size : many ≡ entries p b) (fits : many ≤ mostLeaf) where
-    pub length-marks : length (leafMarks p b) ≡ many
-    unfolding leafMarks
-    length-marks = omega (arith, length-take (entries p b) (drop (blockAt b) p), length-drop (blockAt b) p, block-inside p b inside)
+module _ (p : List ℕ) (b many : ℕ) (inside : b < shares p) (size : many ≡ entries p b) (fits : many ≤ mostLeaf) where
+  pub length-marks : length (leafMarks p b) ≡ many
+  unfolding leafMarks
+  length-marks = omega (arith, length-take (entries p b) (drop (blockAt b) p), length-drop (blockAt b) p, block-inside p b inside)
 
-    pub below-all : (i : ℕ) → BelowTo p b alphabet i → many ≤ i → Says true (AllBelow alphabet (leafMarks p b))
-    below-all i before end =
+  module _ (at alphabet i : ℕ) (place : at ≡ blockAt b) where
+    pub below-all : BelowTo p at alphabet i → many ≤ i → Says true (AllBelow alphabet (leafMarks p b))
+    below-all before end =
         say-yes
         (allBelow-from-getD alphabet (leafMarks p b)
-        (λ j l. let low : j < many = omega (arith, length-marks) in rw (leaf-mark p b j (omega arith)) (before j (omega arith))))
+        (λ j l.
+        let low : j < many = omega (arith, length-marks) in
+        rw (leaf-mark p b j (omega arith)) (rw place at (before j (omega arith)))))
 
-    pub below-not : (i : ℕ) → i < many → alphabet ≤ byte p (blockAt b + i) → Says false (AllBelow alphabet (leafMarks p b))
-    below-not i low high =
+    pub below-not : i < many → alphabet ≤ byte p (at + i) → Says false (AllBelow alphabet (leafMarks p b))
+    below-not low high =
         say-no
         (λ all.
         let here : byte p (blockAt b + i) < alphabet
         = rw (leaf-mark p b i (omega arith)) at (allBelow-getD alphabet (leafMarks p b) all i (omega (arith, length-marks))) in
+        let there : alphabet ≤ byte p (blockAt b + i) = rw place at high in
         omega arith)
 
 -- A root, at a level that the code tested.

@@ -11,7 +11,7 @@ use Rattle.pool.specs.Sound.{Distinct}
 use Rattle.sequence.proofs.Counts.{isMark-cases, isMark-same}
 use Rattle.sequence.specs.Alphabet.{AllBelow}
 use Rattle.sequence.specs.Definition1.{count}
-use Rattle.pool_check.specs.Maps.{meet, New}
+use Rattle.pool_check.specs.Walks.{meet, New}
 
 module _ (tag : ℕ) where
   pub meet-length : (m bs : List ℕ) → length (meet tag m bs) ≡ length m

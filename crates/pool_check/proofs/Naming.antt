@@ -7,7 +7,7 @@ use Prim.Native.Nat.{ℕ, _+_, _≤_}
 use native.Mathlib.Omega.{arith}
 use lib.Dec.{eqb}
 use borrow.Author.Tests.{eq-eqb, ne-eqb}
-use Rattle.pool_entries.proofs.Totals.{sum-more, sum-all}
+use Rattle.pool_entries.proofs.Totals.{sum-none, sum-more, sum-all}
 use Rattle.geometry.specs.Layout.{recordSize, kindClosed, qAt}
 use Rattle.geometry.specs.Limits.{names, mostAlphabet}
 use Rattle.geometry.specs.declared.Record.{Record}
@@ -21,7 +21,7 @@ use Rattle.pool.proofs.Written.{closed-record}
 use Rattle.pool.proofs.Summaries.{own-marks}
 use Rattle.sequence.specs.Alphabet.{sumBelow}
 use Rattle.shape.specs.Fill.{rootLeast}
-use Rattle.pool_check.specs.Maps.{Walked}
+use Rattle.pool_check.specs.Walks.{Walked}
 use Rattle.pool_check.specs.Parts.{Zeros, OpenRecord, MarksFit, WalkedTree, SoundName}
 use Rattle.pool_check.specs.Says.{Says}
 use Rattle.pool_check.proofs.Deciding.{denied, say-same, say-equal}
@@ -99,11 +99,12 @@ module _ (p : List ℕ) (name : ℕ) where
           walk-same tag rootBlocks map after (λ g. whole o (g .0) (fitted .sound fit) (g .1)) (λ n. (root-of n, long-of n))
           (walk-test tag rootBlocks map after passed walked (say-equal own (recordOf p name .length)) (λ tree e. sym e ∙ summed) (λ tree e. summed ∙ sym e))
 
--- the same as the code has it: the record in a local
-module _ (p : List ℕ) (name tag fewest : ℕ) (found : Record) (is : found ≡ recordOf p name) (few : fewest ≡ rootLeast (found .height))
-    (map after : List ℕ) (r : Bool) (walked : Walked r (WalkedTree p (found .alphabet) fewest (found .height) (found .root)) tag (blocksAt p (found .height) (found .root)) map after) where
+-- the same as the code has it: the record and the holder in locals
+module _ (p : List ℕ) (name tag holder fewest : ℕ) (found : Record) (is : found ≡ recordOf p name) (few : fewest ≡ rootLeast (found .height))
+    (held : holder ≡ tag) (map after : List ℕ) (r : Bool)
+    (walked : Walked r (WalkedTree p (found .alphabet) fewest (found .height) (found .root)) holder (blocksAt p (found .height) (found .root)) map after) where
   there : Walked r (Root p name) tag (rootBlocks p name) map after
-  there = rw (few, is) at walked
+  there = rw (few, held, is) at walked
 
   pub root-refused : r ≡ false → Walked false (OpenName p name) tag (blocksAt p (found .height) (found .root)) map after
   root-refused failed = rw is (refused p name tag map after r there failed)
@@ -137,12 +138,12 @@ module _ (p : List ℕ) (name : ℕ) (found : Record) (is : found ≡ recordOf p
       (ne-eqb (recordOf p name .kind) kindClosed (rw is at opened))
       ∙ ap (λ (r : Record). blocksAt p (r .height) (r .root)) (sym is)
 
-  pub closed-walked : (tag : ℕ) (map : List ℕ) (r : Bool) → found .kind ≡ kindClosed → Says r (Zeros p (recordAt name) recordSize)
+  pub closed-walked : (tag at : ℕ) (map : List ℕ) (r : Bool) → at ≡ recordAt name → found .kind ≡ kindClosed → Says r (Zeros p at recordSize)
       → Walked r (SoundName p name) tag (blocksOf p name) map map
-  closed-walked tag map r closed zeros =
+  closed-walked tag at map r place closed zeros =
       let kind : recordOf p name .kind ≡ kindClosed = rw is at closed in
       rw (no-blocks closed) (record {
-        says = say-same (λ z. (inl z, tt)) (λ g. ⊎-elim (λ c. c) (λ o. absurd (omega (arith, o .kind))) (g .0)) zeros;
+        says = say-same (λ z. (inl z, tt)) (λ g. ⊎-elim (λ c. c) (λ o. absurd (omega (arith, o .kind))) (g .0)) (rw place at zeros);
         met = λ e. refl;
       })
 
@@ -155,12 +156,20 @@ module _ (p : List ℕ) (name : ℕ) (found : Record) (is : found ≡ recordOf p
       (walk-same tag (blocksAt p (found .height) (found .root)) map after (λ o. inr o)
       (λ n. ⊎-elim (λ c. absurd (kind (ap (λ (r : Record). r .kind) (closed-record p name c)))) (λ o. o) n) walked)
 
--- The shares that the names are promised.
-pub promise-more : (p : List ℕ) (name sum q : ℕ) → sum ≡ sumBelow name (λ n. recordOf p n .q) → WordAt p (recordAt name + qAt) q
-    → sum + q ≡ sumBelow (name + 1) (λ n. recordOf p n .q)
-unfolding recordOf
-promise-more p name sum q so read = sum-more (λ n. recordOf p n .q) name sum q so (read .is)
+-- The shares that the names below a number are promised.
+unfoldable pub promisedBelow : List ℕ → ℕ → ℕ
+promisedBelow p name = sumBelow name (λ n. recordOf p n .q)
 
-pub promise-all : (p : List ℕ) (name sum : ℕ) → sum ≡ sumBelow name (λ n. recordOf p n .q) → name ≤ names → names ≤ name → sum ≡ promisedShares p
-unfolding promisedShares
-promise-all p name sum so low end = sum-all (λ n. recordOf p n .q) names name sum so low end
+module _ (p : List ℕ) where
+  pub promise-none : 0 ≡ promisedBelow p 0
+  unfolding promisedBelow
+  promise-none = sum-none (λ n. recordOf p n .q)
+
+  pub promise-more : (name at sum q : ℕ) → at ≡ recordAt name → sum ≡ promisedBelow p name → WordAt p (at + qAt) q
+      → sum + q ≡ promisedBelow p (name + 1)
+  unfolding promisedBelow recordOf
+  promise-more name at sum q place so read = sum-more (λ n. recordOf p n .q) name sum q so (rw place at (read .is))
+
+  pub promise-all : (name sum : ℕ) → sum ≡ promisedBelow p name → name ≤ names → names ≤ name → sum ≡ promisedShares p
+  unfolding promisedBelow promisedShares
+  promise-all name sum so low end = sum-all (λ n. recordOf p n .q) names name sum so low end

@@ -59,25 +59,25 @@ module _ (leaf marks : List ℕ) where
   }
 
 -- A leaf's size is the low byte of its word, so the places left tell whether one stands behind the marks.
-module _ (p : List ℕ) (b : ℕ) (inside : b < shares p) (fits : entries p b ≤ mostLeaf) where
-  low-byte : byte p (blockAt b + countAt) ≡ entries p b
+module _ (p : List ℕ) (b at : ℕ) (place : at ≡ blockAt b) (inside : b < shares p) (fits : entries p b ≤ mostLeaf) where
+  low-byte : byte p (at + countAt) ≡ entries p b
   unfolding word
-  low-byte = omega arith
+  low-byte = rw place (omega arith)
 
-  pub low-byte-fits : byte p (blockAt b + countAt) ≤ blockSize
+  pub low-byte-fits : byte p (at + countAt) ≤ blockSize
   low-byte-fits = omega (arith, low-byte)
 
   long-leaf : length (leafMarks p b) ≡ entries p b
-  long-leaf = length-marks p b 0 (entries p b) inside refl fits
+  long-leaf = length-marks p b (entries p b) inside refl fits
 
   module _ (marks : List ℕ) (i left : ℕ) (long : length marks ≡ blockSize) (low : i < blockSize) (here : left ≡ blockSize - i)
       (before : PaddedTo (leafMarks p b) marks i) where
-    pub next-mark : (x : ℕ) → x ≡ byte p (blockAt b + i) → blockSize - byte p (blockAt b + countAt) < left → PaddedTo (leafMarks p b) (set marks i x) (i + 1)
+    pub next-mark : (x : ℕ) → x ≡ byte p (at + i) → blockSize - byte p (at + countAt) < left → PaddedTo (leafMarks p b) (set marks i x) (i + 1)
     next-mark x is ahead =
         let within : i < entries p b = omega (arith, low-byte) in
-        padded-mark (leafMarks p b) marks i x (omega arith) before (omega (arith, long-leaf)) (is ∙ sym (leaf-mark p b i within))
+        padded-mark (leafMarks p b) marks i x (omega arith) before (omega (arith, long-leaf)) (rw place at is ∙ sym (leaf-mark p b i within))
 
-    pub next-behind : (x : ℕ) → x ≡ noSymbol → left ≤ blockSize - byte p (blockAt b + countAt) → PaddedTo (leafMarks p b) (set marks i x) (i + 1)
+    pub next-behind : (x : ℕ) → x ≡ noSymbol → left ≤ blockSize - byte p (at + countAt) → PaddedTo (leafMarks p b) (set marks i x) (i + 1)
     next-behind x is behind =
         padded-behind (leafMarks p b) marks i x (omega arith) before (omega (arith, low-byte, long-leaf)) (λ (l : x < mostAlphabet). omega arith)
 

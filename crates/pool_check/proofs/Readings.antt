@@ -14,7 +14,7 @@ use Rattle.pool.specs.Names.{blocksOf, heldBlocks}
 use Rattle.pool.specs.Shares.{isHeld}
 use Rattle.sequence.specs.Alphabet.{sumBelow}
 use Rattle.sequence.specs.Definition1.{count}
-use Rattle.pool_check.specs.Maps.{MapOf}
+use Rattle.pool_holders.specs.Maps.{MapOf}
 use Rattle.pool_check.proofs.Holders.{times, times-held}
 
 -- a block that stands somewhere stands in some name's list

@@ -47,16 +47,16 @@ module _ (p : List ℕ) (name : ℕ) (found : Record) (is : found ≡ recordOf p
   pub no-room : marksPerShare * found .q < found .length → Says false (OpenRecord p name)
   no-room over = say-no (λ o. omega (arith, o .room, same-q, same-length))
 
-  pub zero-set : (byte p (recordAt name + zeroAt) ≡ 0 → ⊥) → Says false (OpenRecord p name)
-  zero-set other = say-no (λ o. other (o .zeroByte))
+  pub zero-set : (at : ℕ) → at ≡ recordAt name → (byte p (at + zeroAt) ≡ 0 → ⊥) → Says false (OpenRecord p name)
+  zero-set at place other = say-no (λ o. other (rw place (o .zeroByte)))
 
-  pub record-passed : (r : Bool) → found .kind ≡ kindMarks → leastAlphabet ≤ found .alphabet → found .alphabet ≤ mostAlphabet → 1 ≤ found .q
+  pub record-passed : (at : ℕ) (r : Bool) → at ≡ recordAt name → found .kind ≡ kindMarks → leastAlphabet ≤ found .alphabet → found .alphabet ≤ mostAlphabet → 1 ≤ found .q
       → found .height ≤ mostHeight
       → found .length ≤ marksPerShare * found .q
-      → byte p (recordAt name + zeroAt) ≡ 0
-      → Says r (Zeros p (recordAt name + spareAt) (recordSize - spareAt))
+      → byte p (at + zeroAt) ≡ 0
+      → Says r (Zeros p (at + spareAt) (recordSize - spareAt))
       → Says r (OpenRecord p name)
-  record-passed r kind least most promise height room zero spare =
+  record-passed at r place kind least most promise height room zero spare =
       say-same
       (λ zeros. record {
         kind = omega (arith, same-kind);
@@ -64,12 +64,12 @@ module _ (p : List ℕ) (name : ℕ) (found : Record) (is : found ≡ recordOf p
         alphabetMost = omega (arith, same-alphabet);
         promise = omega (arith, same-q);
         height = omega (arith, same-height);
-        zeroByte = zero;
+        zeroByte = rw place at zero;
         spare = λ j low high.
-            let e : recordAt name + spareAt + (j - spareAt) ≡ recordAt name + j = omega arith in
+            let e : at + spareAt + (j - spareAt) ≡ recordAt name + j = omega arith in
             rw e at (zeros (j - spareAt) (omega arith));
         room = omega (arith, same-length, same-q);
       })
       (λ o j low.
-      let e : recordAt name + spareAt + j ≡ recordAt name + (spareAt + j) = omega arith in
+      let e : at + spareAt + j ≡ recordAt name + (spareAt + j) = omega arith in
       rw e (o .spare (spareAt + j) (omega arith) (omega arith))) spare

@@ -7,7 +7,7 @@ use native.Mathlib.Numerals.{add-one}
 use native.Mathlib.Omega.{arith}
 use borrow.Author.Count.{below-more}
 use Rattle.pool.specs.Names.{blocksOf}
-use Rattle.pool_check.specs.Maps.{meet, New, mapTo, Walked, WalkedNames}
+use Rattle.pool_check.specs.Walks.{meet, New, mapTo, Walked, WalkedNames}
 use Rattle.pool_check.proofs.Deciding.{never, say-yes, say-no, denied}
 
 module _ (Good : ℕ → Type 0) (p before : List ℕ) where

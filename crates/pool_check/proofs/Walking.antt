@@ -17,7 +17,7 @@ use Rattle.pool.specs.Trees.{blocksAt}
 use Rattle.pool.proofs.Summaries.{tells-own, own-told}
 use Rattle.shape.specs.Nested.{joined}
 use Rattle.shape.specs.Sizes.{oneToAByte, least}
-use Rattle.pool_check.specs.Maps.{Walked}
+use Rattle.pool_check.specs.Walks.{Walked}
 use Rattle.pool_check.specs.Parts.{MarksFit, SoundUnder, WalkedTree, SoundChildren, Matches}
 use Rattle.pool_check.specs.Says.{Says}
 use Rattle.pool_check.proofs.Deciding.{say-yes, denied}

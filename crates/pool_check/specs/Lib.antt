@@ -1,3 +1,3 @@
 pub mod Says
-pub mod Maps
+pub mod Walks
 pub mod Parts

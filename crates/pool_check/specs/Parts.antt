@@ -15,7 +15,7 @@ use Rattle.pool.specs.Bytes.{byte, recordAt}
 use Rattle.pool.specs.Names.{recordOf}
 use Rattle.pool.specs.Sound.{SoundBlock, SoundBelow, Tells, ClosedName, OpenName, Sound}
 use Rattle.pool.specs.Trees.{ownMarks, ownCount}
-use Rattle.pool_check.specs.Maps.{MapOf}
+use Rattle.pool_holders.specs.Maps.{MapOf}
 use Rattle.pool_check.specs.Says.{Says}
 
 -- so many bytes from an address on are 0

@@ -10,11 +10,13 @@ ghost use Rattle.pool.specs.Sound.{SoundBlock};
 ghost use Rattle.sequence.specs.Alphabet.{AllBelow};
 ghost use Rattle.shape.specs.Fill.{rootLeast};
 ghost use Rattle.shape.specs.Sizes.{oneToAByte, most};
-ghost use Rattle.pool_check.specs.Maps.{Walked};
+ghost use Rattle.pool_check.specs.Walks.{Walked};
 ghost use Rattle.pool_check.specs.Parts.{MarksFit};
 ghost use Rattle.pool_check.specs.Says.{Says};
 ghost use mathlib.Core.List.{[], _∷_};
 use geometry::Record;
+use pool::block_at;
+use pool::shares_of;
 use pool_entries::entry_count;
 use pool_entries::most_entries;
 
@@ -35,16 +37,16 @@ pub fn enter(
     holder: u8,
 ) -> bool
     requires { ⌜ (directorySize ≤ length (now pool)) × (length (now pool) ≤ longestPool) ⌝ }
-    ensures { λ r. ⌜ Walked r (SoundBlock (now (pool .entry)) fewest level b) holder (b ∷ []) (now (map .entry)) (now (map .exit)) ⌝ }
+    ensures { λ r. ⌜ Walked r (SoundBlock (now (pool .entry)) fewest level b) holder (b ∷ [])
+        (now (map .entry)) (now (map .exit)) ⌝ }
 {
-    if b >= (pool.len() - Record::DIRECTORY_SIZE) / Record::BLOCK_SIZE {
+    if b >= shares_of(pool) {
         return false;
     }
     if map[b] != 0 {
         return false;
     }
-    let at = Record::DIRECTORY_SIZE + Record::BLOCK_SIZE * b;
-    if pool[at + Record::FORM_AT] != Record::FORM_MARKS {
+    if pool[block_at(b) + Record::FORM_AT] != Record::FORM_MARKS {
         return false;
     }
     let many = entry_count(pool, b);
@@ -63,7 +65,7 @@ fn marks_below(pool: &[u8], b: usize, many: usize, alphabet: u8) -> bool
     requires { ⌜ (b < shares (now pool)) × (many ≡ entries (now pool) b) × (many ≤ mostLeaf) ⌝ }
     ensures { λ r. ⌜ Says r (AllBelow alphabet (leafMarks (now (pool .entry)) b)) ⌝ }
 {
-    let at = Record::DIRECTORY_SIZE + Record::BLOCK_SIZE * b;
+    let at = block_at(b);
     let mut i = 0;
     while i < many {
         if pool[at + i] >= alphabet {

@@ -5,6 +5,7 @@ ghost use Rattle.pool_check.specs.Says.{Says};
 use crate::directory::header_sound;
 use crate::names::check_names;
 use geometry::Record;
+use pool::shares_of;
 
 mod block;
 mod directory;
@@ -27,7 +28,7 @@ pub fn length_allowed(bytes: usize) -> bool
     bytes <= Record::LONGEST_POOL
 }
 
-// Whether the pool is sound. The map then has 0 for each free block, and for each other its holder's name plus 1.
+// Whether the pool is sound. The map then has 0 for each free block, and for each other its holder's number.
 pub fn check(pool: &[u8], map: &mut [u8; Record::MOST_SHARES]) -> bool
     ensures { λ r. ⌜ Checked (now (pool .entry)) r (now (map .exit)) ⌝ }
 {
@@ -37,7 +38,7 @@ pub fn check(pool: &[u8], map: &mut [u8; Record::MOST_SHARES]) -> bool
     if !header_sound(pool) {
         return false;
     }
-    if promised(pool) > (pool.len() - Record::DIRECTORY_SIZE) / Record::BLOCK_SIZE {
+    if promised(pool) > shares_of(pool) {
         return false;
     }
     *map = [0; Record::MOST_SHARES];

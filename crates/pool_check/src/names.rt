@@ -1,13 +1,14 @@
 // The names in turn: a closed one has zeros, an open one a record and a tree.
 ghost use mathlib.Core.Path.{_≡_};
-ghost use Prim.Native.Nat.{_+_, _≤_, _<_};
+ghost use Prim.Native.Nat.{_≤_, _<_};
 ghost use lib.ListN.{length};
 ghost use Rattle.geometry.specs.Limits.{directorySize, longestPool, names};
 ghost use Rattle.pool.specs.Names.{recordOf, blocksOf};
 ghost use Rattle.pool.specs.Shares.{promisedShares};
 ghost use Rattle.pool.specs.Sound.{OpenName};
 ghost use Rattle.pool.specs.Trees.{blocksAt};
-ghost use Rattle.pool_check.specs.Maps.{Walked, WalkedNames};
+ghost use Rattle.pool_holders.specs.Maps.{holderOf};
+ghost use Rattle.pool_check.specs.Walks.{Walked, WalkedNames};
 ghost use Rattle.pool_check.specs.Parts.{OpenRecord, SoundName};
 ghost use Rattle.pool_check.specs.Says.{Says};
 use crate::block::least_of_root;
@@ -17,7 +18,9 @@ use crate::summaries::own_marks;
 use crate::walk::check_block;
 use geometry::Record;
 use pool::read_record;
+use pool::record_at;
 use pool::word;
+use pool_holders::holder_of;
 
 // Whether the record of an open name is in order, its tree aside.
 fn record_sound(pool: &[u8], name: usize, found: Record) -> bool
@@ -27,7 +30,7 @@ fn record_sound(pool: &[u8], name: usize, found: Record) -> bool
     let alphabet = found.alphabet as usize;
     let q = found.q as usize;
     let length = found.length as usize;
-    let at = Record::HEADER_SIZE + Record::RECORD_SIZE * name;
+    let at = record_at(name);
     if found.kind != Record::KIND_MARKS {
         return false;
     }
@@ -60,7 +63,8 @@ fn record_sound(pool: &[u8], name: usize, found: Record) -> bool
 fn check_open(pool: &[u8], name: usize, found: Record, map: &mut [u8; Record::MOST_SHARES]) -> bool
     requires size { ⌜ (directorySize ≤ length (now pool)) × (length (now pool) ≤ longestPool) ⌝ }
     requires found { ⌜ (name < names) × (found ≡ recordOf (now pool) name) ⌝ }
-    ensures { λ r. ⌜ Walked r (OpenName (now (pool .entry)) name) (name + 1) (blocksAt (now (pool .entry)) (found .height) (found .root)) (now (map .entry)) (now (map .exit)) ⌝ }
+    ensures { λ r. ⌜ Walked r (OpenName (now (pool .entry)) name) (holderOf name)
+        (blocksAt (now (pool .entry)) (found .height) (found .root)) (now (map .entry)) (now (map .exit)) ⌝ }
 {
     if !record_sound(pool, name, found) {
         return false;
@@ -68,7 +72,7 @@ fn check_open(pool: &[u8], name: usize, found: Record, map: &mut [u8; Record::MO
     let height = found.height as usize;
     let root = found.root as usize;
     let fewest = least_of_root(height);
-    let holder = name as u8 + 1;
+    let holder = holder_of(name);
     if !check_block(&pool, height, root, fewest, found.alphabet, map, holder) {
         return false;
     }
@@ -81,12 +85,12 @@ fn check_open(pool: &[u8], name: usize, found: Record, map: &mut [u8; Record::MO
 // Whether a name is sound and holds no block that was met before.
 fn check_name(pool: &[u8], name: usize, map: &mut [u8; Record::MOST_SHARES]) -> bool
     requires { ⌜ (directorySize ≤ length (now pool)) × (length (now pool) ≤ longestPool) × (name < names) ⌝ }
-    ensures { λ r. ⌜ Walked r (SoundName (now (pool .entry)) name) (name + 1) (blocksOf (now (pool .entry)) name) (now (map .entry)) (now (map .exit)) ⌝ }
+    ensures { λ r. ⌜ Walked r (SoundName (now (pool .entry)) name) (holderOf name)
+        (blocksOf (now (pool .entry)) name) (now (map .entry)) (now (map .exit)) ⌝ }
 {
     let found = read_record(pool, name);
     if found.kind == Record::KIND_CLOSED {
-        let at = Record::HEADER_SIZE + Record::RECORD_SIZE * name;
-        return all_zero(pool, at, Record::RECORD_SIZE);
+        return all_zero(pool, record_at(name), Record::RECORD_SIZE);
     }
     check_open(pool, name, found, map)
 }
@@ -114,8 +118,7 @@ pub fn promised(pool: &[u8]) -> usize
     let mut sum = 0;
     let mut name = 0;
     while name < Record::NAMES {
-        let at = Record::HEADER_SIZE + Record::RECORD_SIZE * name;
-        sum += word(pool, at + Record::Q_AT);
+        sum += word(pool, record_at(name) + Record::Q_AT);
         name += 1;
     }
     sum

@@ -12,6 +12,7 @@ ghost use Rattle.shape.specs.Sizes.{oneToAByte, least, most};
 ghost use Rattle.pool_check.specs.Parts.{Repeats, Matches, Padded, Claim};
 ghost use Rattle.pool_check.specs.Says.{Says};
 use geometry::Record;
+use pool::block_at;
 use pool_entries::count_below;
 use pool_entries::entry_count;
 use pool_entries::marks_below;
@@ -20,7 +21,8 @@ use sequence::count_in;
 // What stands behind a leaf's marks where they are filled up.
 const NO_SYMBOL: u8 = 255;
 
-// Whether entry k of a branch is the summary of the block `child`, of a level; and of a leaf whether its marks are below the alphabet's size.
+// Whether entry k of a branch is the summary of the block `child`, of a level; and of a leaf whether its marks are below the alphabet's
+// size.
 pub fn repeats(pool: &[u8], level: usize, b: usize, k: usize, child: usize, alphabet: u8) -> bool
     requires parent { ⌜ (b < shares (now pool)) × (k < mostBranch) ⌝ }
     requires child { ⌜ (child < shares (now pool)) × (alphabet ≤ mostAlphabet) ⌝ }
@@ -82,7 +84,7 @@ fn padded(pool: &[u8], leaf: usize) -> [u8; Record::BLOCK_SIZE]
     requires { ⌜ (leaf < shares (now pool)) × (entries (now pool) leaf ≤ mostLeaf) ⌝ }
     ensures { λ r. ⌜ Padded (leafMarks (now (pool .entry)) leaf) r ⌝ }
 {
-    let at = Record::DIRECTORY_SIZE + Record::BLOCK_SIZE * leaf;
+    let at = block_at(leaf);
     let behind = Record::BLOCK_SIZE as u8 - pool[at + Record::COUNT_AT];
     let mut marks = [0u8; Record::BLOCK_SIZE];
     let mut left = Record::BLOCK_SIZE as u8;
@@ -117,7 +119,8 @@ fn claim_holds(marks: &[u8], c: usize, told: usize, alphabet: u8) -> bool
 // A branch, by adding up its entries.
 fn branch_repeats(pool: &[u8], b: usize, k: usize, child: usize) -> bool
     requires parent { ⌜ (b < shares (now pool)) × (k < mostBranch) ⌝ }
-    requires child { ⌜ (child < shares (now pool)) × (leastBranch ≤ entries (now pool) child) × (entries (now pool) child ≤ mostBranch) ⌝ }
+    requires child { ⌜ (child < shares (now pool)) × (leastBranch ≤ entries (now pool) child)
+        × (entries (now pool) child ≤ mostBranch) ⌝ }
     ensures { λ r. ⌜ Says r (Repeats (now (pool .entry)) 1 b k child) ⌝ }
 {
     let many = entry_count(pool, child);

@@ -8,7 +8,7 @@ ghost use Rattle.pool.specs.Blocks.{link as linkOf};
 ghost use Rattle.pool.specs.Bytes.{shares, from};
 ghost use Rattle.pool.specs.Trees.{blocksAt};
 ghost use Rattle.shape.specs.Nested.{joined};
-ghost use Rattle.pool_check.specs.Maps.{Walked};
+ghost use Rattle.pool_check.specs.Walks.{Walked};
 ghost use Rattle.pool_check.specs.Parts.{WalkedTree, SoundChildren};
 use crate::block::enter;
 use crate::summaries::repeats;
@@ -28,8 +28,10 @@ pub fn check_block(
     map: &mut [u8; Record::MOST_SHARES],
     holder: u8,
 ) -> bool
-    requires { ⌜ (directorySize ≤ length (now (now pool))) × (length (now (now pool)) ≤ longestPool) × (alphabet ≤ mostAlphabet) ⌝ }
-    ensures { λ r. ⌜ Walked r (WalkedTree (now (now (pool .entry))) alphabet fewest level b) holder (blocksAt (now (now (pool .entry))) level b) (now (map .entry)) (now (map .exit)) ⌝ }
+    requires { ⌜ (directorySize ≤ length (now (now pool))) × (length (now (now pool)) ≤ longestPool)
+        × (alphabet ≤ mostAlphabet) ⌝ }
+    ensures { λ r. ⌜ Walked r (WalkedTree (now (now (pool .entry))) alphabet fewest level b) holder
+        (blocksAt (now (now (pool .entry))) level b) (now (map .entry)) (now (map .exit)) ⌝ }
 {
     if !enter(*pool, level, b, fewest, map, holder) {
         return false;
@@ -52,9 +54,12 @@ fn check_children(
     map: &mut [u8; Record::MOST_SHARES],
     holder: u8,
 ) -> bool
-    requires size { ⌜ (directorySize ≤ length (now (now pool))) × (length (now (now pool)) ≤ longestPool) × (alphabet ≤ mostAlphabet) ⌝ }
+    requires size { ⌜ (directorySize ≤ length (now (now pool))) × (length (now (now pool)) ≤ longestPool)
+        × (alphabet ≤ mostAlphabet) ⌝ }
     requires branch { ⌜ (b < shares (now (now pool))) × (k + left ≤ mostBranch) ⌝ }
-    ensures { λ r. ⌜ Walked r (SoundChildren (now (now (pool .entry))) alphabet level b k left) holder (joined (blocksAt (now (now (pool .entry))) level) (from (linkOf (now (now (pool .entry))) b) k left)) (now (map .entry)) (now (map .exit)) ⌝ }
+    ensures { λ r. ⌜ Walked r (SoundChildren (now (now (pool .entry))) alphabet level b k left) holder
+        (joined (blocksAt (now (now (pool .entry))) level) (from (linkOf (now (now (pool .entry))) b) k left))
+        (now (map .entry)) (now (map .exit)) ⌝ }
 {
     if left == 0 {
         return true;

@@ -1,3 +1,4 @@
+pub mod Places
 pub mod Levels
 pub mod Totals
 pub mod Filling

@@ -1,5 +1,5 @@
 -- A block's summary: from what a leaf counts and a branch adds up, and at any level.
-use mathlib.Core.Path.{_≡_, refl, ap, _∙_}
+use mathlib.Core.Path.{_≡_, refl, ap, ap₂, _∙_}
 use mathlib.Core.List.{List}
 use Prim.Native.Nat.{ℕ, zero, suc, _+_, _-_, _*_, _≤_, _<_}
 use native.Mathlib.Omega.{arith}
@@ -25,13 +25,12 @@ pub summary-full : (p : List ℕ) (h b marks c : ℕ) (counts : List ℕ) → ma
 summary-full p h b marks c counts so filled end = record { marks = so; counts = fill-all (ownCount p h b) c counts filled end }
 
 -- a leaf's count of a symbol, in the stretch of its marks
-pub leaf-count : (p : List ℕ) (b many c met : ℕ) → Is (entries p b) many
-    → met ≡ count c (take (blockAt b + many - blockAt b) (drop (blockAt b) p))
+pub leaf-count : (p : List ℕ) (b at many c met : ℕ) → at ≡ blockAt b → Is (entries p b) many → met ≡ count c (take (at + many - at) (drop at p))
     → met ≡ ownCount p 0 b c
 unfolding leafMarks
-leaf-count p b many c met size counted =
-    let e : blockAt b + many - blockAt b ≡ entries p b = omega (arith, size .is) in
-    counted ∙ ap (λ (n : ℕ). count c (take n (drop (blockAt b) p))) e
+leaf-count p b at many c met place size counted =
+    let e : at + many - at ≡ entries p b = omega (arith, size .is) in
+    counted ∙ ap₂ (λ (n a : ℕ). count c (take n (drop a p))) e place
 
 -- a branch's marks and its count of a symbol, the sums of words of its entries
 module _ (p : List ℕ) (b many : ℕ) (size : Is (entries p b) many) where
@@ -42,12 +41,17 @@ module _ (p : List ℕ) (b many : ℕ) (size : Is (entries p b) many) where
   branch-count c met added = added ∙ sum-counts p b c many ∙ ap (λ (n : ℕ). sumBelow n (λ k. countBelow p b k c)) (size .is)
 
 -- they fit words where they are small
-module _ (p : List ℕ) (h b : ℕ) (small : SmallSums p h b) where
-  pub marks-fit : (marks : ℕ) → marks ≡ ownMarks p h b → marks < wordLimit
-  marks-fit marks so = omega (arith, small .marks)
+module _ (p : List ℕ) (b many : ℕ) (size : Is (entries p b) many) where
+  pub leaf-count-fits : (at c met : ℕ) → at ≡ blockAt b → entries p b ≤ mostLeaf → met ≡ count c (take (at + many - at) (drop at p))
+      → met < wordLimit
+  leaf-count-fits at c met place fits counted = omega (arith, size .is, counted, count-take-le c (at + many - at) (drop at p))
 
-  pub count-fits : (c met : ℕ) → c < mostAlphabet → met ≡ ownCount p h b c → met < wordLimit
-  count-fits c met inside so = omega (arith, small .counts c inside)
+  module _ (small : SmallSums p 1 b) where
+    pub branch-marks-fit : (marks : ℕ) → marks ≡ sumBelow many (wordsAt p b entryMarksAt) → marks < wordLimit
+    branch-marks-fit marks added = omega (arith, small .marks, branch-marks p b many size marks added)
+
+    pub branch-count-fits : (c met : ℕ) → met ≡ sumBelow many (wordsAt p b (entryCountsAt + wordSize * c)) → c < mostAlphabet → met < wordLimit
+    branch-count-fits c met added inside = omega (arith, small .counts c inside, branch-count p b many size c met added)
 
 -- they are small where they are the length and the counts of a list that is short enough
 pub small-sums : (p : List ℕ) (h b : ℕ) (marks : List ℕ) → ownMarks p h b ≡ length marks

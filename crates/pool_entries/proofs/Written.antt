@@ -37,20 +37,19 @@ module _ (at : ℕ) (counts p : List ℕ) where
   counts-all most many q done few end = let e : most ≡ many = omega arith in rw e done
 
 -- link, marks and counts make an entry
-pub entry-put : (b k child : ℕ) (summary : Summary) (p q r s : List ℕ) → PutWord (entryAt b k) child p q
-    → PutWord (entryAt b k + entryMarksAt) (summary .marks) q r
-    → PutCounts (entryAt b k + entryCountsAt) mostAlphabet (summary .counts) r s
+pub entry-put : (b k at child : ℕ) (summary : Summary) (p q r s : List ℕ) → at ≡ entryAt b k → PutWord at child p q
+    → PutWord (at + entryMarksAt) (summary .marks) q r
+    → PutCounts (at + entryCountsAt) mostAlphabet (summary .counts) r s
     → PutEntry b k child summary p s
-entry-put b k child summary p q r s link marks counts =
-    let at = entryAt b k in
+entry-put b k at child summary p q r s place link marks counts =
     record {
       same =
-          outside-then (outside-wider at entrySize (omega arith) (omega arith) (link .same))
-          (outside-then (outside-wider at entrySize (omega arith) (omega arith) (marks .same))
-          (outside-wider at entrySize (omega arith) (omega arith) (counts .same)));
-      link = word-before (counts .same) at (omega arith) ∙ word-before (marks .same) at (omega arith) ∙ link .put;
-      marks = word-before (counts .same) (at + entryMarksAt) (omega arith) ∙ marks .put;
-      counts = counts .put;
+          outside-then (outside-wider (entryAt b k) entrySize (omega arith) (omega arith) (link .same))
+          (outside-then (outside-wider (entryAt b k) entrySize (omega arith) (omega arith) (marks .same))
+          (outside-wider (entryAt b k) entrySize (omega arith) (omega arith) (counts .same)));
+      link = rw place at (word-before (counts .same) at (omega arith) ∙ word-before (marks .same) at (omega arith) ∙ link .put);
+      marks = rw place at (word-before (counts .same) (at + entryMarksAt) (omega arith) ∙ marks .put);
+      counts = rw place at (counts .put);
     }
 
 -- the two words that a mark counts in
@@ -66,8 +65,8 @@ module _ (b k c allMarks allOfC : ℕ) (p q r : List ℕ) (inside : c < mostAlph
       (λ (gt : c < d). word-behind (count .same) at (omega arith))
       ∙ word-behind (marks .same) at (omega arith)
 
-  pub mark-put : PutMark b k c allMarks allOfC p r
-  mark-put =
+  mark-in-place : PutMark b k c allMarks allOfC p r
+  mark-in-place =
       let at = entryAt b k in
       record {
         same =
@@ -78,3 +77,9 @@ module _ (b k c allMarks allOfC : ℕ) (p q r : List ℕ) (inside : c < mostAlph
         count = count .put;
         others = λ d h other. count-kept d other;
       }
+
+pub mark-put : (b k at c allMarks allOfC : ℕ) (p q r : List ℕ) → at ≡ entryAt b k → c < mostAlphabet
+    → PutWord (at + entryMarksAt) allMarks p q → PutWord (at + entryCountsAt + wordSize * c) allOfC q r
+    → PutMark b k c allMarks allOfC p r
+mark-put b k at c allMarks allOfC p q r place inside marks count =
+    mark-in-place b k c allMarks allOfC p q r inside (rw place at marks) (rw place at count)

@@ -4,7 +4,8 @@ use Prim.Native.Nat.{ℕ, suc, _+_, _≤_, _<_}
 use Rattle.sequence.specs.Alphabet.{sumBelow}
 use Rattle.pool_entries.specs.declared.Seat.{Seat}
 
--- the child that takes i, of so many children that m measures: those before it add up to less than i, and with it to i at least; the first takes 0, and the last all that is left
+-- the child that takes i, of so many children that m measures: those before it add up to less than i, and with it to i at least; the
+-- first takes 0, and the last all that is left
 pub record Seated (m : ℕ → ℕ) (many i : ℕ) (r : Seat) : Type 0 where
   pub inside : r .k < many
   pub sum : r .before ≡ sumBelow (r .k) m

@@ -5,21 +5,12 @@ ghost use Rattle.geometry.specs.Layout.{leastBranch, mostBranch, entrySize, wor
 ghost use Rattle.pool.specs.Blocks.{entries, marksBelow};
 ghost use Rattle.pool.specs.Bytes.{shares};
 ghost use Rattle.sequence.specs.Alphabet.{sumBelow};
-ghost use Rattle.pool_entries.specs.Summaries.{Is, wordsAt};
+ghost use Rattle.pool_entries.specs.Summaries.{wordsAt};
 ghost use Rattle.pool_entries.specs.Seats.{Seated};
 use crate::Seat;
 use crate::reads::entry_count;
+use crate::reads::entry_word;
 use geometry::Record;
-use pool::word;
-
-// The word that entry k has at an offset.
-fn entry_word(pool: &[u8], b: usize, k: usize, offset: usize) -> usize
-    requires { ⌜ (b < shares (now pool)) × (k < mostBranch) × (offset + wordSize ≤ entrySize) ⌝ }
-    ensures { λ r. ⌜ Is (wordsAt (now (pool .entry)) b offset k) r ⌝ }
-{
-    let at = Record::DIRECTORY_SIZE + Record::BLOCK_SIZE * b + Record::ENTRY_SIZE * k;
-    word(pool, at + offset)
-}
 
 // The child that takes i: the first up to which the words add up to i or more, or the last. So 0 goes to the first child, and a child's
 // last place stays with that child.
@@ -56,13 +47,16 @@ pub fn find_child(pool: &[u8], b: usize, i: usize) -> Seat
     seat_by(pool, b, Record::ENTRY_MARKS_AT, i)
 }
 
-// What the words of the children before child k add up to.
+// What the words of the first k entries add up to.
 pub fn words_before(pool: &[u8], b: usize, offset: usize, k: usize) -> usize
-    requires { ⌜ (b < shares (now pool)) × (k < mostBranch) × (offset + wordSize ≤ entrySize) ⌝ }
+    requires { ⌜ (b < shares (now pool)) × (k ≤ mostBranch) × (offset + wordSize ≤ entrySize) ⌝ }
     ensures { λ r. ⌜ r ≡ sumBelow k (wordsAt (now (pool .entry)) b offset) ⌝ }
 {
     let first = entry_word(pool, b, 0, offset);
     let both = first + entry_word(pool, b, 1, offset);
+    if k > 2 {
+        return both + entry_word(pool, b, 2, offset);
+    }
     let mut sum = 0;
     if k > 0 {
         sum = first;

@@ -21,8 +21,6 @@ pub use stores::add_mark;
 pub use stores::set_entry;
 pub use stores::take_mark;
 pub use sums::summary_of;
-pub use sums::summary_of_branch;
-pub use sums::summary_of_leaf;
 
 // How many marks a block has, and how many of them are each symbol.
 pub struct Summary {

@@ -9,6 +9,7 @@ ghost use Rattle.pool.specs.Words.{wordLimit};
 ghost use Rattle.pool_entries.specs.Entries.{PutCounts, PutEntry, PutMark, AddMark, TakeMark};
 use crate::Summary;
 use crate::reads::count_below;
+use crate::reads::entry_at;
 use crate::reads::marks_below;
 use geometry::Record;
 use pool::put_word;
@@ -18,7 +19,7 @@ pub fn set_entry(pool: &mut [u8], b: usize, k: usize, child: usize, summary: Sum
     requires { ⌜ (b < shares (now pool)) × (k < mostBranch) × (child < wordLimit) ⌝ }
     ensures { λ _. ⌜ PutEntry b k child summary (now (pool .entry)) (now (pool .exit)) ⌝ }
 {
-    let at = Record::DIRECTORY_SIZE + Record::BLOCK_SIZE * b + Record::ENTRY_SIZE * k;
+    let at = entry_at(b, k);
     let counts = summary.counts;
     put_word(pool, at, child);
     put_word(pool, at + Record::ENTRY_MARKS_AT, summary.marks as usize);
@@ -65,7 +66,7 @@ fn put_mark(pool: &mut [u8], b: usize, k: usize, c: usize, marks: usize, count: 
     requires small { ⌜ (marks < wordLimit) × (count < wordLimit) ⌝ }
     ensures { λ _. ⌜ PutMark b k c marks count (now (pool .entry)) (now (pool .exit)) ⌝ }
 {
-    let at = Record::DIRECTORY_SIZE + Record::BLOCK_SIZE * b + Record::ENTRY_SIZE * k;
+    let at = entry_at(b, k);
     put_word(pool, at + Record::ENTRY_MARKS_AT, marks);
     put_word(
         pool,

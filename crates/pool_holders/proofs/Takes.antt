@@ -12,18 +12,21 @@ use Rattle.sequence.proofs.Selects.{select-le-length, select-positive, access-s
 use Rattle.pool_holders.specs.Maps.{isFree, freeIn, BlockTaken, Entered}
 
 -- the first free block is found
-pub found-place : (m : List ℕ) → 1 ≤ freeIn m → 1 ≤ select 0 m 1
-found-place m some = select-positive 0 m 1 (omega arith) some
+module _ (m : List ℕ) (place : ℕ) (some : 1 ≤ freeIn m) (is : place ≡ select 0 m 1) where
+  pub found-place : 1 ≤ place
+  found-place = omega (arith, select-positive 0 m 1 (omega arith) some)
 
-pub found-taken : (m : List ℕ) (holder place : ℕ) → 1 ≤ freeIn m → place ≡ select 0 m 1 → BlockTaken holder (place - 1) m (set m (place - 1) holder)
-unfolding access
-found-taken m holder place some is =
-    let low : 1 ≤ place = omega (arith, found-place m some) in
-    record {
-      inside = omega (arith, select-le-length 0 m 1);
-      free = ap (λ (n : ℕ). getD m (n - 1) 0) is ∙ access-select 0 m 1 (omega arith) some;
-      entered = refl;
-    }
+  pub found-inside : place - 1 < length m
+  found-inside = omega (arith, found-place, select-le-length 0 m 1)
+
+  pub found-taken : (holder : ℕ) → BlockTaken holder (place - 1) m (set m (place - 1) holder)
+  unfolding access
+  found-taken holder =
+      record {
+        inside = found-inside;
+        free = ap (λ (n : ℕ). getD m (n - 1) 0) is ∙ access-select 0 m 1 (omega arith) some;
+        entered = refl;
+      }
 
 -- a place that is free is no longer, and all others are as before
 count-set : (m : List ℕ) (b holder : ℕ) → b < length m → getD m b 0 ≡ 0 → 0 < holder → count 0 m ≡ count 0 (set m b holder) + 1

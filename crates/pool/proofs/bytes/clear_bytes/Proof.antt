@@ -13,41 +13,17 @@ Inv-loop pool₀ at many i₀ pool i = (at + many ≤ length pool₀) × (i ≤ 
 abbrev μ-loop : tie.MeasureT-loop
 μ-loop pool₀ at many i₀ pool i = many - i
 
-loop-holds : tie.Need-loop-holds Inv-loop μ-loop
-loop-holds c = (search needs, search needs, search clear-none)
-
-add-pool : tie.Need-add-pool Inv-loop μ-loop
-add-pool c = search needs
-
-slice-write-pool : tie.Need-slice-write-pool Inv-loop μ-loop
-slice-write-pool c = search needs
-
-add-i : tie.Need-add-i Inv-loop μ-loop
-add-i c = search needs
-
-loop-less : tie.Need-loop-less Inv-loop μ-loop
-loop-less c = search needs
-
-loop-again : tie.Need-loop-again Inv-loop μ-loop
-loop-again c = (search needs, search needs, search clear-more)
-
-same-length : tie.Need-same-length Inv-loop μ-loop
-same-length c = search needs
-
-returns : tie.Need-returns Inv-loop μ-loop
-returns c = search clear-all
-
 pub clear-bytes-spec : {M : Type 1} → statement M
 clear-bytes-spec =
     tie.close
     (tie.spec
     Inv-loop
     μ-loop
-    loop-holds
-    add-pool
-    slice-write-pool
-    add-i
-    loop-less
-    loop-again
-    same-length
-    returns)
+    (λ c. search (clear-none, needs))  -- loop-holds
+    (λ c. search needs)
+    (λ c. search needs)
+    (λ c. search needs)
+    (λ c. search needs)
+    (λ c. search (clear-more, needs))  -- loop-again
+    (λ c. search needs)
+    (λ c. search clear-all))  -- returns

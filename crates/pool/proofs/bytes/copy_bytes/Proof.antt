@@ -14,49 +14,19 @@ Inv-loop source from target₀ to many i₀ target i =
 abbrev μ-loop : tie.MeasureT-loop
 μ-loop source from target₀ to many i₀ target i = many - i
 
-loop-holds : tie.Need-loop-holds Inv-loop μ-loop
-loop-holds c = (search needs, search needs, search needs, search copy-none)
-
-add-target : tie.Need-add-target Inv-loop μ-loop
-add-target c = search needs
-
-shared-slice-read-target : tie.Need-shared-slice-read-target Inv-loop μ-loop
-shared-slice-read-target c = search needs
-
-add-target-2 : tie.Need-add-target-2 Inv-loop μ-loop
-add-target-2 c = search needs
-
-slice-write-target : tie.Need-slice-write-target Inv-loop μ-loop
-slice-write-target c = search needs
-
-add-i : tie.Need-add-i Inv-loop μ-loop
-add-i c = search needs
-
-loop-less : tie.Need-loop-less Inv-loop μ-loop
-loop-less c = search needs
-
-loop-again : tie.Need-loop-again Inv-loop μ-loop
-loop-again c = (search needs, search needs, search needs, search copy-more)
-
-same-length : tie.Need-same-length Inv-loop μ-loop
-same-length c = search needs
-
-returns : tie.Need-returns Inv-loop μ-loop
-returns c = search copy-all
-
 pub copy-bytes-spec : {M : Type 1} → statement M
 copy-bytes-spec =
     tie.close
     (tie.spec
     Inv-loop
     μ-loop
-    loop-holds
-    add-target
-    shared-slice-read-target
-    add-target-2
-    slice-write-target
-    add-i
-    loop-less
-    loop-again
-    same-length
-    returns)
+    (λ c. search (copy-none, needs))  -- loop-holds
+    (λ c. search needs)
+    (λ c. search needs)
+    (λ c. search needs)
+    (λ c. search needs)
+    (λ c. search needs)
+    (λ c. search needs)
+    (λ c. search (copy-more, needs))  -- loop-again
+    (λ c. search needs)
+    (λ c. search copy-all))  -- returns

@@ -4,14 +4,10 @@ use Rattle.pool_blocks.proofs.Branches.{branches-joined}
 use Rattle.pool_blocks.proofs.branch.join_branches.Statement.{statement}
 use Rattle.pool_blocks.proofs.branch.join_branches.Tie as tie
 
-join-requires : tie.Need-join-requires
-join-requires c κs = search needs
-
-same-length : tie.Need-same-length
-same-length c = search needs
-
-returns : tie.Need-returns
-returns c = search branches-joined
-
 pub join-branches-spec : {M : Type 1} → statement M
-join-branches-spec = tie.close (tie.spec join-requires same-length returns)
+join-branches-spec =
+    tie.close
+    (tie.spec
+    (λ c κs. search needs)
+    (λ c. search needs)
+    (λ c. search branches-joined))  -- returns

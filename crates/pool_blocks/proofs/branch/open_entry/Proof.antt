@@ -4,14 +4,10 @@ use Rattle.pool_blocks.proofs.Branches.{entry-opened}
 use Rattle.pool_blocks.proofs.branch.open_entry.Statement.{statement}
 use Rattle.pool_blocks.proofs.branch.open_entry.Tie as tie
 
-open-gap-requires : tie.Need-open-gap-requires
-open-gap-requires c κs = search needs
-
-same-length : tie.Need-same-length
-same-length c = search needs
-
-returns : tie.Need-returns
-returns c = search entry-opened
-
 pub open-entry-spec : {M : Type 1} → statement M
-open-entry-spec = tie.close (tie.spec open-gap-requires same-length returns)
+open-entry-spec =
+    tie.close
+    (tie.spec
+    (λ c κs. search needs)
+    (λ c. search needs)
+    (λ c. search entry-opened))  -- returns

@@ -4,14 +4,10 @@ use Rattle.pool_blocks.proofs.Branches.{entry-removed}
 use Rattle.pool_blocks.proofs.branch.remove_entry.Statement.{statement}
 use Rattle.pool_blocks.proofs.branch.remove_entry.Tie as tie
 
-close-gap-requires : tie.Need-close-gap-requires
-close-gap-requires c κs = search needs
-
-same-length : tie.Need-same-length
-same-length c = search needs
-
-returns : tie.Need-returns
-returns c = search entry-removed
-
 pub remove-entry-spec : {M : Type 1} → statement M
-remove-entry-spec = tie.close (tie.spec close-gap-requires same-length returns)
+remove-entry-spec =
+    tie.close
+    (tie.spec
+    (λ c κs. search needs)
+    (λ c. search needs)
+    (λ c. search entry-removed))  -- returns

@@ -4,14 +4,10 @@ use Rattle.pool_blocks.proofs.Parts.{emptied}
 use Rattle.pool_blocks.proofs.moves.empty_block.Statement.{statement}
 use Rattle.pool_blocks.proofs.moves.empty_block.Tie as tie
 
-put-trailer-requires : tie.Need-put-trailer-requires
-put-trailer-requires c κs = search needs
-
-same-length : tie.Need-same-length
-same-length c = search needs
-
-returns : tie.Need-returns
-returns c = search emptied
-
 pub empty-block-spec : {M : Type 1} → statement M
-empty-block-spec = tie.close (tie.spec put-trailer-requires same-length returns)
+empty-block-spec =
+    tie.close
+    (tie.spec
+    (λ c κs. search needs)
+    (λ c. search needs)
+    (λ c. search emptied))  -- returns

@@ -3,11 +3,9 @@ use Rattle.pool_check.proofs.Levels.{root-leaf, root-branch}
 use Rattle.pool_check.proofs.block.least_of_root.Statement.{statement}
 use Rattle.pool_check.proofs.block.least_of_root.Tie as tie
 
-returns : tie.Need-returns
-returns c = search root-leaf
-
-returns-2 : tie.Need-returns-2
-returns-2 c = search root-branch
-
 pub least-of-root-spec : {M : Type 1} → statement M
-least-of-root-spec = tie.close (tie.spec returns returns-2)
+least-of-root-spec =
+    tie.close
+    (tie.spec
+    (λ c. search root-leaf)  -- returns
+    (λ c. search root-branch))  -- returns-2

@@ -4,17 +4,11 @@ use Rattle.pool_check.proofs.Leaves.{branch-fit, leaf-fit, leaf-few}
 use Rattle.pool_check.proofs.block.root_fits.Statement.{statement}
 use Rattle.pool_check.proofs.block.root_fits.Tie as tie
 
-returns : tie.Need-returns
-returns c = search branch-fit
-
-entry-count-requires : tie.Need-entry-count-requires
-entry-count-requires c κs = search needs
-
-marks-below-requires : tie.Need-marks-below-requires
-marks-below-requires c κs = (search needs, search needs, search leaf-few)
-
-returns-2 : tie.Need-returns-2
-returns-2 c = search leaf-fit
-
 pub root-fits-spec : {M : Type 1} → statement M
-root-fits-spec = tie.close (tie.spec returns entry-count-requires marks-below-requires returns-2)
+root-fits-spec =
+    tie.close
+    (tie.spec
+    (λ c. search branch-fit)  -- returns
+    (λ c κs. search needs)
+    (λ c κs. search leaf-few)  -- marks-below-requires
+    (λ c. search leaf-fit))  -- returns-2

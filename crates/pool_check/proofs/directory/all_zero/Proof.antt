@@ -15,26 +15,8 @@ Inv-loop pool at many clean₀ i₀ clean i = (i ≤ many) × (at + many ≤ len
 abbrev μ-loop : tie.MeasureT-loop
 μ-loop pool at many clean₀ i₀ clean i = many - i
 
-loop-holds : tie.Need-loop-holds Inv-loop μ-loop
-loop-holds c = (search needs, search needs, search zeros-none)
-
-add-if1 : tie.Need-add-if1 Inv-loop μ-loop
-add-if1 c = search needs
-
-shared-slice-read-if1 : tie.Need-shared-slice-read-if1 Inv-loop μ-loop
-shared-slice-read-if1 c = search needs
-
-add-i : tie.Need-add-i Inv-loop μ-loop
-add-i c = search needs
-
-loop-less : tie.Need-loop-less Inv-loop μ-loop
-loop-less c = search needs
-
 loop-again : tie.Need-loop-again Inv-loop μ-loop
 loop-again c = (search needs, search needs, ⊎-elim (λ w. search zeros-not) (λ w. search zeros-more) (c .if1 .came))
-
-returns : tie.Need-returns Inv-loop μ-loop
-returns c = search zeros-all
 
 pub all-zero-spec : {M : Type 1} → statement M
 all-zero-spec =
@@ -42,10 +24,10 @@ all-zero-spec =
     (tie.spec
     Inv-loop
     μ-loop
-    loop-holds
-    add-if1
-    shared-slice-read-if1
-    add-i
-    loop-less
+    (λ c. search (zeros-none, needs))  -- loop-holds
+    (λ c. search needs)
+    (λ c. search needs)
+    (λ c. search needs)
+    (λ c. search needs)
     loop-again
-    returns)
+    (λ c. search zeros-all))  -- returns

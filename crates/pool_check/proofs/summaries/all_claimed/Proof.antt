@@ -16,37 +16,16 @@ Inv-loop pool b k sum₀ c₀ sum c = (c ≤ mostAlphabet) × (sum ≤ wordLimit
 abbrev μ-loop : tie.MeasureT-loop
 μ-loop pool b k sum₀ c₀ sum c = mostAlphabet - c
 
-loop-holds : tie.Need-loop-holds Inv-loop μ-loop
-loop-holds c = (search needs, search needs, search sum-none)
-
-count-below-requires : tie.Need-count-below-requires Inv-loop μ-loop
-count-below-requires c κs = search needs
-
-add-sum : tie.Need-add-sum Inv-loop μ-loop
-add-sum c = search needs
-
-add-c : tie.Need-add-c Inv-loop μ-loop
-add-c c = search needs
-
-loop-less : tie.Need-loop-less Inv-loop μ-loop
-loop-less c = search needs
-
-loop-again : tie.Need-loop-again Inv-loop μ-loop
-loop-again c = (search needs, search needs, search sum-more)
-
-returns : tie.Need-returns Inv-loop μ-loop
-returns c = search sum-all
-
 pub all-claimed-spec : {M : Type 1} → statement M
 all-claimed-spec =
     tie.close
     (tie.spec
     Inv-loop
     μ-loop
-    loop-holds
-    count-below-requires
-    add-sum
-    add-c
-    loop-less
-    loop-again
-    returns)
+    (λ c. search (sum-none, needs))  -- loop-holds
+    (λ c κs. search needs)
+    (λ c. search needs)
+    (λ c. search needs)
+    (λ c. search needs)
+    (λ c. search (sum-more, needs))  -- loop-again
+    (λ c. search sum-all))  -- returns

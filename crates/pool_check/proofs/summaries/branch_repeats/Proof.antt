@@ -15,35 +15,8 @@ Inv-loop pool b k child many all-told all-own same₀ c₀ same c = (c ≤ mostA
 abbrev μ-loop : tie.MeasureT-loop
 μ-loop pool b k child many all-told all-own same₀ c₀ same c = mostAlphabet - c
 
-entry-count-requires : tie.Need-entry-count-requires Inv-loop μ-loop
-entry-count-requires c κs = search needs
-
-marks-below-requires : tie.Need-marks-below-requires Inv-loop μ-loop
-marks-below-requires c κs = search needs
-
-own-marks-requires : tie.Need-own-marks-requires Inv-loop μ-loop
-own-marks-requires c κs = search needs
-
-loop-holds : tie.Need-loop-holds Inv-loop μ-loop
-loop-holds c = (search needs, search repeat-marks)
-
-count-below-requires : tie.Need-count-below-requires Inv-loop μ-loop
-count-below-requires c κs = search needs
-
-branch-count-requires : tie.Need-branch-count-requires Inv-loop μ-loop
-branch-count-requires c κs = search needs
-
-add-c : tie.Need-add-c Inv-loop μ-loop
-add-c c = search needs
-
-loop-less : tie.Need-loop-less Inv-loop μ-loop
-loop-less c = search needs
-
 loop-again : tie.Need-loop-again Inv-loop μ-loop
 loop-again c = (search needs, ⊎-elim (λ w. search repeat-not) (λ w. search repeat-more) (c .if1 .came))
-
-returns : tie.Need-returns Inv-loop μ-loop
-returns c = search repeat-all
 
 pub branch-repeats-spec : {M : Type 1} → statement M
 branch-repeats-spec =
@@ -51,13 +24,13 @@ branch-repeats-spec =
     (tie.spec
     Inv-loop
     μ-loop
-    entry-count-requires
-    marks-below-requires
-    own-marks-requires
-    loop-holds
-    count-below-requires
-    branch-count-requires
-    add-c
-    loop-less
+    (λ c κs. search needs)
+    (λ c κs. search needs)
+    (λ c κs. search needs)
+    (λ c. search (repeat-marks, needs))  -- loop-holds
+    (λ c κs. search needs)
+    (λ c κs. search needs)
+    (λ c. search needs)
+    (λ c. search needs)
     loop-again
-    returns)
+    (λ c. search repeat-all))  -- returns

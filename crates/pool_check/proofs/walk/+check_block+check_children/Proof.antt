@@ -4,7 +4,6 @@ use borrow.Author.Needs.{needs}
 use borrow.Author.Tests.{not-true, not-false}
 use Rattle.pool_check.proofs.Walking.{children-below, block-below, fewer-children, block-inside, branch-fits, block-refused, leaf-walked, branch-walked, no-children, child-refused, entry-refused, children-walked}
 use Prim.Native.Nat.{ℕ, _+_, _*_, _<_}
-use native.Mathlib.Omega.{arith}
 use Rattle.pool_check.proofs.Walks.{walk-found}
 use borrow.Fn.Kinds.{In}
 use borrow.Fn.PlainCycle.{Measures, is, falls, and}
@@ -77,88 +76,34 @@ children-told t = (
   check-children.Post,
 )
 
-check-block-enter-requires : (t : ℕ) → check-block-lts.Need-enter-requires (block-told t) (check-block-at t) check-block.Post
-check-block-enter-requires t c κs = search needs
-
-check-block-returns : (t : ℕ) → check-block-lts.Need-returns (block-told t) (check-block-at t) check-block.Post
-check-block-returns t c = search (block-refused, not-true)
-
-check-block-entry-count-requires : (t : ℕ) → check-block-lts.Need-entry-count-requires (block-told t) (check-block-at t) check-block.Post
-check-block-entry-count-requires t c κs = search (block-inside, not-false)
-
-check-block-returns-2 : (t : ℕ) → check-block-lts.Need-returns-2 (block-told t) (check-block-at t) check-block.Post
-check-block-returns-2 t c = search (leaf-walked, not-false)
-
-check-block-sub-check-children : (t : ℕ) → check-block-lts.Need-sub-check-children (block-told t) (check-block-at t) check-block.Post
-check-block-sub-check-children t c = search needs
-
-check-block-check-children-requires : (t : ℕ) → check-block-lts.Need-check-children-requires (block-told t) (check-block-at t) check-block.Post
-check-block-check-children-requires t c κs = (
-  search (children-below, branch-fits, not-false),
-  (c .before .before .before .before .before .before .before .before .pre .1, (search (block-inside, not-false), search (branch-fits, not-false))),
-)
-
-check-block-returns-3 : (t : ℕ) → check-block-lts.Need-returns-3 (block-told t) (check-block-at t) check-block.Post
-check-block-returns-3 t c = search (branch-walked, not-false)
-
-check-children-returns : (t : ℕ) → check-children-lts.Need-returns (children-told t) (check-children-at t) check-children.Post
-check-children-returns t c = search no-children
-
-check-children-link-requires : (t : ℕ) → check-children-lts.Need-link-requires (children-told t) (check-children-at t) check-children.Post
-check-children-link-requires t c κs = search needs
-
-check-children-least-entries-requires : (t : ℕ) → check-children-lts.Need-least-entries-requires (children-told t) (check-children-at t) check-children.Post
-check-children-least-entries-requires t c κs = search needs
-
-check-children-check-block-requires : (t : ℕ) → check-children-lts.Need-check-block-requires (children-told t) (check-children-at t) check-children.Post
-check-children-check-block-requires t c κs = (search block-below, c .before .before .before .before .before .pre .1 .0)
-
-check-children-returns-2 : (t : ℕ) → check-children-lts.Need-returns-2 (children-told t) (check-children-at t) check-children.Post
-check-children-returns-2 t c = search (child-refused, not-true)
-
 check-children-repeats-requires : (t : ℕ) → check-children-lts.Need-repeats-requires (children-told t) (check-children-at t) check-children.Post
 check-children-repeats-requires t c κs =
     let checked = c .before .before .check-block in
     let child = walk-found _ (not-false (checked .result) (c .before .if2 .left)) (checked .ensures) .0 in
-    (search needs, ((child .inside, search needs), (omega (arith, child .enough, c .before .before .before .before .least-entries .ensures), child .fits)))
-
-check-children-returns-3 : (t : ℕ) → check-children-lts.Need-returns-3 (children-told t) (check-children-at t) check-children.Post
-check-children-returns-3 t c = search (entry-refused, not-true, not-false)
-
-check-children-add-check-children : (t : ℕ) → check-children-lts.Need-add-check-children (children-told t) (check-children-at t) check-children.Post
-check-children-add-check-children t c = search needs
-
-check-children-sub-check-children : (t : ℕ) → check-children-lts.Need-sub-check-children (children-told t) (check-children-at t) check-children.Post
-check-children-sub-check-children t c = search needs
-
-check-children-check-children-requires : (t : ℕ) → check-children-lts.Need-check-children-requires (children-told t) (check-children-at t) check-children.Post
-check-children-check-children-requires t c κs = (search fewer-children, (c .before .before .before .before .before .before .before .before .before .before .before .pre .1 .0, search needs))
-
-check-children-returns-4 : (t : ℕ) → check-children-lts.Need-returns-4 (children-told t) (check-children-at t) check-children.Post
-check-children-returns-4 t c = search (children-walked, not-false)
+    (search needs, ((search (walk-found, not-false), search needs), (search (not-false, needs), search (walk-found, not-false))))
 
 pub +check-block+check-children-spec : {M : Type 1} → statement M
 +check-block+check-children-spec = close μ-check-block μ-check-children (λ t. check-block-lts.spec (block-told t)
     (check-block-at t)
     check-block.Post
-    (check-block-enter-requires t)
-    (check-block-returns t)
-    (check-block-entry-count-requires t)
-    (check-block-returns-2 t)
-    (check-block-sub-check-children t)
-    (check-block-check-children-requires t)
-    (check-block-returns-3 t))
+    (λ c κs. search needs)
+    (λ c. search (block-refused, not-true))  -- returns
+    (λ c κs. search (block-inside, not-false))  -- entry-count-requires
+    (λ c. search (leaf-walked, not-false))  -- returns-2
+    (λ c. search needs)
+    (λ c κs. search (children-below, branch-fits, not-false, block-inside))  -- check-children-requires
+    (λ c. search (branch-walked, not-false)))  -- returns-3
     λ t. check-children-lts.spec (children-told t)
     (check-children-at t)
     check-children.Post
-    (check-children-returns t)
-    (check-children-link-requires t)
-    (check-children-least-entries-requires t)
-    (check-children-check-block-requires t)
-    (check-children-returns-2 t)
+    (λ c. search no-children)  -- returns
+    (λ c κs. search needs)
+    (λ c κs. search needs)
+    (λ c κs. search block-below)  -- check-block-requires
+    (λ c. search (child-refused, not-true))  -- returns-2
     (check-children-repeats-requires t)
-    (check-children-returns-3 t)
-    (check-children-add-check-children t)
-    (check-children-sub-check-children t)
-    (check-children-check-children-requires t)
-    (check-children-returns-4 t)
+    (λ c. search (entry-refused, not-true, not-false))  -- returns-3
+    (λ c. search needs)
+    (λ c. search needs)
+    (λ c κs. search (fewer-children, needs))  -- check-children-requires
+    (λ c. search (children-walked, not-false))  -- returns-4
