@@ -1,3 +1,4 @@
+pub mod SoundBlocks
 pub mod LeafSplits
 pub mod LeafInserts
 pub mod SameEntries
