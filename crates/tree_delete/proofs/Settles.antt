@@ -5,7 +5,6 @@ use mathlib.Core.Logic.{⊎-elim}
 use Prim.Native.Nat.{ℕ, suc, _+_, _-_, _≤_, _<_}
 use native.Mathlib.Omega.{arith}
 use Rattle.geometry.specs.Layout.{mostBranch}
-use Rattle.geometry.specs.Limits.{mostAlphabet}
 use Rattle.sequence.proofs.Counts.{isMark-same, isMark-other, isMark-cases}
 use Rattle.sequence.specs.Definition1.{count}
 use Rattle.shape.proofs.Filled.{least-two}
@@ -19,7 +18,7 @@ use Rattle.pool.proofs.Froms.{all-from, from-same}
 use Rattle.pool.proofs.Lists.{joined-same, map-same}
 use Rattle.pool.proofs.Sums.{sumBelow-one}
 use Rattle.pool.specs.Blocks.{entries, link, marksBelow, countBelow, children}
-use Rattle.pool.specs.Bytes.{shares, from}
+use Rattle.pool.specs.Bytes.{from}
 use Rattle.pool.specs.Changes.{Only}
 use Rattle.pool.specs.Trees.{shapeAt, blocksAt}
 use Rattle.pool_entries.proofs.Neighbours.{link-apart, entries-kept, form-kept, only-entry}
@@ -35,14 +34,14 @@ module _ (p m : List ℕ) (h b k c : ℕ) (ready : SettleReady p m h b k c) wher
   two : 2 ≤ least oneToAByte h
   two = least-two oneToAByte oneToAByte-proper h
 
-  inside-branch : k < mostBranch
+  pub inside-branch : k < mostBranch
   inside-branch = omega (arith, ready .place, ready .block .fits)
 
-  pub take-ready : ((b < shares p) × (k < mostBranch) × (c < mostAlphabet)) × ((0 < marksBelow p b k) × (0 < countBelow p b k c))
-  take-ready = (
-    (ready .block .inside, inside-branch, ready .symbol),
-    (omega (arith, ready .marks), omega (arith, ready .counts c (ready .symbol), isMark-same c c refl)),
-  )
+  pub marks-there : 0 < marksBelow p b k
+  marks-there = omega (arith, ready .marks)
+
+  pub count-there : 0 < countBelow p b k c
+  count-there = omega (arith, ready .counts c (ready .symbol), isMark-same c c refl)
 
   -- the branch is in no child's tree
   apart : (j : ℕ) → j < entries p b → (y : ℕ) → 1 ≤ count y (blocksAt p h (link p b j)) → y ≡ b → ⊥
