@@ -2,12 +2,9 @@
 use mathlib.Core.Path.{_≡_, sym, ap, ap₂, _∙_}
 use mathlib.Core.Bool.{cond}
 use mathlib.Core.List.{List, _∷_, _++_}
-use mathlib.Core.Logic.{⊎-elim}
 use Prim.Native.Nat.{ℕ, suc, _+_, _-_, _≤_, _<_}
-use native.Mathlib.Nat.{eq-zero-or-pos}
 use native.Mathlib.Omega.{arith}
 use lib.ListN.{length, take, drop, length-append}
-use Rattle.geometry.specs.Layout.{leastBranch, mostBranch}
 use Rattle.sequence.specs.Alphabet.{sumBelow}
 use Rattle.sequence.specs.Definition1.{isMark, count}
 use Rattle.shape.proofs.Choice.{by-leb}
@@ -21,17 +18,13 @@ use Rattle.shape.specs.Sizes.{oneToAByte, least}
 use Rattle.pool.proofs.Children.{shape-around, told-all, count-blocks}
 use Rattle.pool.proofs.Sums.{sumBelow-one}
 use Rattle.pool.specs.Blocks.{entries, link, marksBelow}
-use Rattle.pool.specs.Bytes.{shares}
 use Rattle.pool.specs.Sound.{SoundBlock}
 use Rattle.pool.specs.Trees.{shapeAt, blocksAt, pathAt}
 use Rattle.tree_splits.specs.Inserts.{InsertReady}
 use Rattle.pool_entries.proofs.SeatedChildren.{seated-takes, seated-total, seated-path}
+use Rattle.pool_entries.proofs.Seats.{seated-left}
 use Rattle.pool_entries.specs.Seats.{Seated}
 use Rattle.pool_entries.specs.declared.Seat.{Seat}
-
--- what the choice of a child needs
-pub branch-ready : (p m : List ℕ) (h b i c holder : ℕ) → InsertReady p m (suc h) b i c holder → (b < shares p) × (leastBranch ≤ entries p b) × (entries p b ≤ mostBranch)
-branch-ready p m h b i c holder ready = (ready .block .inside, ready .block .enough, ready .block .fits)
 
 module _ (p m : List ℕ) (h b i c holder : ℕ) (ready : InsertReady p m (suc h) b i c holder) (s : Seat) (seated : Seated (marksBelow p b) (entries p b) i s) where
   abbrev pub childOf : ℕ
@@ -45,12 +38,6 @@ module _ (p m : List ℕ) (h b i c holder : ℕ) (ready : InsertReady p m (suc h
 
   pub before-total : total (marksIn h) (take (s .k) (shapeAt p (suc h) b)) ≡ s .before
   before-total = seated-total p h b length length-append (marksBelow p b) told i s seated
-
-  pub before-least : s .before < i
-  unfolding sumBelow
-  before-least =
-      ⊎-elim (λ (e : s .k ≡ 0). omega (arith, seated .sum, ap (λ (k : ℕ). sumBelow k (marksBelow p b)) e, ready .first))
-      (λ l. seated .past l) (eq-zero-or-pos (s .k))
 
   -- the place is in the child, or just behind it where it is the last
   place-last : i - s .before ≤ marksIn h (shapeAt p h childOf) + 1
@@ -92,7 +79,7 @@ module _ (p m : List ℕ) (h b i c holder : ℕ) (ready : InsertReady p m (suc h
         block = record { inside = block .inside; form = block .form; enough = omega (arith, block .enough, root-least oneToAByte oneToAByte-proper h); fits = block .fits };
         below = ready .below (s .k) (seated .inside) .1;
         agrees = λ x. omega (arith, ready .agrees x, child-blocks x);
-        first = omega (arith, before-least);
+        first = seated-left (marksBelow p b) (entries p b) i s seated (ready .first);
         last = place-last;
         symbol = ready .symbol;
         short = omega (arith, ready .short, child-short);
