@@ -3,6 +3,7 @@ use mathlib.Core.Path.{_≡_, refl, ap, ap₂, _∙_}
 use mathlib.Core.List.{List}
 use Prim.Native.Nat.{ℕ, zero, suc, _+_, _-_, _*_, _^_, _≤_, _<_}
 use native.Mathlib.Omega.{arith}
+use lib.ListN.{length}
 use Rattle.pool_entries.proofs.Totals.{sum-counts}
 use Rattle.pool_entries.specs.Summaries.{Is, wordsAt}
 use Rattle.geometry.specs.Layout.{leastBranch, mostBranch, entryCountsAt, wordSize}
@@ -12,17 +13,18 @@ use Rattle.pool.proofs.Summaries.{own-count}
 use Rattle.pool.specs.Blocks.{entries, countBelow}
 use Rattle.pool.specs.Bytes.{shares}
 use Rattle.pool.specs.Names.{recordOf, treeOf}
-use Rattle.pool.specs.Sound.{SoundBelow, OpenName}
+use Rattle.pool.specs.Sound.{SoundBlock, SoundBelow, OpenName}
 use Rattle.pool.specs.Trees.{shapeAt, ownCount}
 use Rattle.pool.specs.Words.{wordLimit}
 use Rattle.sequence.proofs.Counts.{count-le-length}
 use Rattle.sequence.proofs.Ranks.{rank-length}
 use Rattle.sequence.specs.Alphabet.{sumBelow}
 use Rattle.sequence.specs.Definition1.{count, rank}
+use Rattle.shape.specs.Fill.{rootLeast}
 use Rattle.shape.specs.Nested.{flat, marksIn}
 use Rattle.shape.specs.Trees.{marksT}
-use Rattle.tree_query.proofs.Descents.{branch-inside, branch-least, branch-most}
-use Rattle.tree_query.proofs.Opened.{record-good, record-marks, record-length, record-place, record-ranked}
+use Rattle.tree_query.specs.Good.{Good}
+use Rattle.tree_query.proofs.Opened.{record-good, record-marks, record-length, record-ranked}
 
 -- A branch.
 sum-last : (n : ℕ) (f : ℕ → ℕ) → 1 ≤ n → sumBelow (n - 1) f + f (n - 1) ≡ sumBelow n f
@@ -43,6 +45,10 @@ module _ (p : List ℕ) (b c many before last : ℕ) (size : Is (entries p b) ma
   pub branch-fits : ownCount p 1 b c < wordLimit → before + last < 2 ^ 64
   branch-fits small = omega (arith, branch-adds)
 
+branch-size : (p : List ℕ) (h b : ℕ) → (h ≡ 0 → ⊥) → SoundBlock p (rootLeast h) h b → (leastBranch ≤ entries p b) × (entries p b ≤ mostBranch)
+branch-size p zero b branch block = absurd (branch refl)
+branch-size p (suc h) b branch block = (block .enough, block .fits)
+
 branch-own : (p : List ℕ) (alphabet h b c : ℕ) → (h ≡ 0 → ⊥) → c < mostAlphabet → SoundBelow p alphabet h b
     → ownCount p 1 b c ≡ count c (flat h (shapeAt p h b))
 branch-own p alphabet zero b c branch low below = absurd (branch refl)
@@ -50,8 +56,8 @@ branch-own p alphabet (suc h) b c branch low below = own-count p alphabet (suc h
 
 -- A name, by the record that was read.
 module _ (p : List ℕ) (name : ℕ) (o : OpenName p name) (r : Record) (is : r ≡ recordOf p name) (c : ℕ) (low : c < mostAlphabet) where
-  pub record-all : r .length ≤ marksIn (r .height) (shapeAt p (r .height) (r .root))
-  record-all = record-place p name o r is (r .length) (omega (arith, record-length p name o r is))
+  pub leaf-ready : (Good p (r .height) (r .root) × (c < mostAlphabet)) × (r .length ≤ marksIn (r .height) (shapeAt p (r .height) (r .root)))
+  leaf-ready = ((record-good p name o r is, low), omega (arith, record-length p name o r is, ap length (record-marks p name o r is)))
 
   pub leaf-counted : (n : ℕ) → n ≡ rank c (flat (r .height) (shapeAt p (r .height) (r .root))) (r .length) → n ≡ count c (marksT (treeOf p name))
   leaf-counted n ranked =
@@ -65,17 +71,19 @@ module _ (p : List ℕ) (name : ℕ) (o : OpenName p name) (r : Record) (is : r 
         branch-own p (r .alphabet) (r .height) (r .root) c branch low (rw is (o .below))
         ∙ ap (count c) (record-marks p name o r is)
 
-    pub root-inside : r .root < shares p
-    root-inside = branch-inside (r .height) p (r .height) (r .root) refl (record-good p name o r is) branch
-
-    pub root-least : leastBranch ≤ entries p (r .root)
-    root-least = branch-least (r .height) p (r .height) (r .root) refl (record-good p name o r is) branch
-
-    pub root-most : entries p (r .root) ≤ mostBranch
-    root-most = branch-most (r .height) p (r .height) (r .root) refl (record-good p name o r is) branch
-
-    pub root-small : r .length < wordLimit → ownCount p 1 (r .root) c < wordLimit
-    root-small short = omega (arith, root-says, count-le-length c (marksT (treeOf p name)), record-length p name o r is)
+    pub branch-ready : r .length < wordLimit
+        → ((r .root < shares p) × (c < mostAlphabet))
+        × ((leastBranch ≤ entries p (r .root)) × (entries p (r .root) ≤ mostBranch) × (ownCount p 1 (r .root) c < wordLimit))
+    branch-ready short =
+        let size = branch-size p (r .height) (r .root) branch (rw is (o .root)) in
+        let inside : r .root < shares p = rw is (o .root .inside) in (
+          (inside, low),
+          (
+            size .0,
+            size .1,
+            omega (arith, root-says, count-le-length c (marksT (treeOf p name)), record-length p name o r is),
+          ),
+        )
 
     pub branch-counted : (n : ℕ) → n ≡ ownCount p 1 (r .root) c → n ≡ count c (marksT (treeOf p name))
     branch-counted n says = says ∙ root-says

@@ -1,7 +1,7 @@
 -- An open name, by the record that was read: its tree can be asked, and what its root's block answers is the name's answer.
 use mathlib.Core.Path.{_≡_, ap, _∙_}
 use mathlib.Core.List.{List}
-use Prim.Native.Nat.{ℕ, _≤_, _<_}
+use Prim.Native.Nat.{ℕ}
 use native.Mathlib.Omega.{arith}
 use lib.ListN.{length}
 use Rattle.geometry.specs.declared.Record.{Record}
@@ -9,9 +9,8 @@ use Rattle.pool.specs.Names.{recordOf, treeOf, pathOf}
 use Rattle.pool.specs.Sound.{OpenName}
 use Rattle.pool.specs.Trees.{shapeAt}
 use Rattle.pool.proofs.SoundNames.{open-depth, open-depth-rule}
-use Rattle.pool.specs.Words.{wordLimit}
-use Rattle.sequence.specs.Definition1.{count, rank, select}
-use Rattle.shape.specs.Nested.{flat, marksIn}
+use Rattle.sequence.specs.Definition1.{rank, select}
+use Rattle.shape.specs.Nested.{flat}
 use Rattle.shape.specs.Trees.{marksT}
 use Rattle.tree_query.specs.Answers.{FoundIn, FoundOf}
 use Rattle.tree_query.specs.Good.{Good}
@@ -27,16 +26,6 @@ module _ (p : List ℕ) (name : ℕ) (opened : OpenName p name) (r : Record) (is
 
   pub record-length : r .length ≡ length (marksT (treeOf p name))
   record-length = ap (λ (x : Record). x .length) is ∙ opened .length
-
-  -- a place of the name is one of its root, and so is a number of c
-  pub record-place : (i : ℕ) → i ≤ length (marksT (treeOf p name)) → i ≤ marksIn (r .height) (shapeAt p (r .height) (r .root))
-  record-place i place = omega (arith, ap length record-marks)
-
-  pub record-number : (c j : ℕ) → j ≤ count c (marksT (treeOf p name)) → j ≤ count c (flat (r .height) (shapeAt p (r .height) (r .root)))
-  record-number c j number = omega (arith, ap (count c) record-marks)
-
-  pub record-few : r .length < wordLimit → marksIn (r .height) (shapeAt p (r .height) (r .root)) < wordLimit
-  record-few small = omega (arith, record-length, ap length record-marks)
 
   -- the root's answers are the name's
   pub record-ranked : (c i n : ℕ) → n ≡ rank c (flat (r .height) (shapeAt p (r .height) (r .root))) i → n ≡ rank c (marksT (treeOf p name)) i
