@@ -1,5 +1,5 @@
 -- A delete by level, as the code tells levels apart: at a leaf a mark is taken out, at a branch the child's delete is taken up.
-use mathlib.Core.Path.{_≡_, refl, _∙_}
+use mathlib.Core.Path.{_≡_, refl}
 use mathlib.Core.List.{List}
 use Prim.Native.Nat.{ℕ, _-_, _≤_}
 use native.Mathlib.Omega.{arith}
@@ -16,6 +16,7 @@ use Rattle.pool_entries.specs.Summaries.{Is}
 use Rattle.pool_entries.specs.Seats.{Seated}
 use Rattle.pool_entries.specs.declared.Seat.{Seat}
 use Rattle.pool_holders.proofs.Frees.{freed-none}
+use Rattle.tree_splits.proofs.SoundBlocks.{block-written}
 use Rattle.tree_delete.specs.Mends.{SettleReady, Mended}
 use Rattle.tree_delete.specs.Removals.{DeleteReady, Deleted}
 use Rattle.tree_delete.proofs.ChildDeletes.{child-ready, settle-ready, level-deleted}
@@ -34,13 +35,7 @@ module _ (p m : List ℕ) (level b i : ℕ) (leaf : level ≡ 0) where
         tree =
             record {
               shape = del .marks;
-              block =
-                  record {
-                    inside = omega (arith, ready .block .inside, del .only .long);
-                    form = del .form ∙ ready .block .form;
-                    enough = omega (arith, del .many);
-                    fits = omega (arith, del .many, ready .block .fits);
-                  };
+              block = block-written (ready .block) (del .only .long) (del .form) (del .many) (omega arith) (omega (arith, ready .block .fits));
               below = rw (del .marks) (allBelow-delete mostAlphabet i (leafMarks p b) (ready .below));
               blocks = λ x. refl;
               only = only-wider _ (λ x e. rw e (own-block p 0 b)) (del .only);

@@ -28,6 +28,7 @@ use Rattle.pool_blocks.specs.Contents.{entryList}
 use Rattle.pool_blocks.specs.Leaves.{LeavesJoined, LeavesShared}
 use Rattle.tree_splits.proofs.GoodEntries.{GoodEntry, shapeIn, blocksIn, below-good, good-below, shape-entries, blocks-entries}
 use Rattle.tree_splits.proofs.Pieces.{map-append, map-chop}
+use Rattle.tree_splits.proofs.SoundBlocks.{block-written}
 use Rattle.tree_delete.specs.Mends.{TwoNodes, NodesJoined, NodesShared}
 use Rattle.tree_delete.proofs.KeptTrees.{kept-entries}
 
@@ -65,12 +66,7 @@ module _ (p q : List ℕ) (left right : ℕ) (two : TwoNodes p zero left right) 
             ∙ sym (chop-fits mostLeaf together (omega (arith, length-append (leafMarks p left) (leafMarks p right), sizes)));
         sound = (
           (
-            record {
-              inside = omega (arith, two .first .0 .inside, join .only .long);
-              form = join .form ∙ two .first .0 .form;
-              enough = omega (arith, join .many, two .enough);
-              fits = omega (arith, join .many);
-            },
+            block-written (two .first .0) (join .only .long) (join .form) (join .many) (two .enough) fit,
             rw (join .marks) (all-append (λ x. x < mostAlphabet) (leafMarks p left) (leafMarks p right) (two .first .1) (two .second .1)),
           ),
           tt,
@@ -89,22 +85,12 @@ module _ (p q : List ℕ) (left right : ℕ) (two : TwoNodes p zero left right) 
         shapes = sym (chop-halves mostLeaf together (omega (arith, length-append (leafMarks p left) (leafMarks p right), sizes)) ∙ share .marks);
         sound = (
           (
-            record {
-              inside = omega (arith, two .first .0 .inside, share .only .long);
-              form = share .leftForm ∙ two .first .0 .form;
-              enough = omega (arith, share .leftMany);
-              fits = omega (arith, share .leftMany, two .first .0 .fits, two .second .0 .fits);
-            },
+            block-written (two .first .0) (share .only .long) (share .leftForm) (share .leftMany) (omega arith) (omega (arith, two .first .0 .fits, two .second .0 .fits)),
             rw front (all-take (λ x. x < mostAlphabet) (middle together) together all),
           ),
           (
             (
-              record {
-                inside = omega (arith, two .second .0 .inside, share .only .long);
-                form = share .rightForm ∙ two .second .0 .form;
-                enough = omega (arith, share .rightMany);
-                fits = omega (arith, share .rightMany, two .first .0 .fits, two .second .0 .fits);
-              },
+              block-written (two .second .0) (share .only .long) (share .rightForm) (share .rightMany) (omega arith) (omega (arith, two .first .0 .fits, two .second .0 .fits)),
               rw back (all-drop (λ x. x < mostAlphabet) (middle together) together all),
             ),
             tt,
@@ -174,12 +160,7 @@ module _ (p q : List ℕ) (h left right : ℕ) (two : TwoNodes p (suc h) left ri
             ∙ sym (chop-fits mostBranch _ (omega (arith, ap length all-shapes, length-map all-entries (shapeIn p h), many-entries)));
         sound = (
           (
-            record {
-              inside = omega (arith, two .first .0 .inside, join .only .long);
-              form = join .form ∙ two .first .0 .form;
-              enough = omega (arith, join .many, two .enough);
-              fits = omega (arith, join .many);
-            },
+            block-written (two .first .0) (join .only .long) (join .form) (join .many) (two .enough) fit,
             good-below q h left (rw list (still-good only)),
           ),
           tt,
@@ -206,22 +187,12 @@ module _ (p q : List ℕ) (h left right : ℕ) (two : TwoNodes p (suc h) left ri
             ∙ ap (chop mostBranch) (same-shapes only);
         sound = (
           (
-            record {
-              inside = omega (arith, two .first .0 .inside, share .only .long);
-              form = share .leftForm ∙ two .first .0 .form;
-              enough = omega (arith, share .leftMany);
-              fits = omega (arith, share .leftMany, two .first .0 .fits, two .second .0 .fits);
-            },
+            block-written (two .first .0) (share .only .long) (share .leftForm) (share .leftMany) (omega arith) (omega (arith, two .first .0 .fits, two .second .0 .fits)),
             good-below q h left (rw front (all-take (GoodEntry q h) half all-entries (still-good only))),
           ),
           (
             (
-              record {
-                inside = omega (arith, two .second .0 .inside, share .only .long);
-                form = share .rightForm ∙ two .second .0 .form;
-                enough = omega (arith, share .rightMany);
-                fits = omega (arith, share .rightMany, two .first .0 .fits, two .second .0 .fits);
-              },
+              block-written (two .second .0) (share .only .long) (share .rightForm) (share .rightMany) (omega arith) (omega (arith, two .first .0 .fits, two .second .0 .fits)),
               good-below q h right (rw back (all-drop (GoodEntry q h) half all-entries (still-good only))),
             ),
             tt,

@@ -20,6 +20,7 @@ use Rattle.pool_entries.proofs.Levels.{at-leaf, at-branch}
 use Rattle.pool_entries.specs.Summaries.{Is}
 use Rattle.pool_holders.specs.Maps.{isFree, GivenBack}
 use Rattle.pool_holders.proofs.Frees.{given-blocks, given-freed, freed-then}
+use Rattle.tree_splits.proofs.SoundBlocks.{block-least}
 use Rattle.tree_delete.specs.Removals.{DeleteReady, Deleted}
 use Rattle.tree_delete.specs.Trees.{TreeDeleted}
 use Rattle.tree_delete.proofs.PairMends.{own-block}
@@ -38,7 +39,7 @@ leaf-kept p m b i r q n del =
     record {
       taken = del .taken;
       tree = ap (λ (x : Node zero). record { height = zero; root = x }) (del .tree .shape);
-      block = record { inside = del .tree .block .inside; form = del .tree .block .form; enough = omega arith; fits = del .tree .block .fits };
+      block = block-least (omega arith) (del .tree .block);
       below = del .tree .below;
       blocks = del .tree .blocks;
       only = del .tree .only;
@@ -54,7 +55,7 @@ module _ (p m : List ℕ) (h b i r : ℕ) (q n : List ℕ) (del : Deleted (suc h
         taken = del .taken;
         tree =
             sym (shrunk-whole h (shapeAt q (suc h) b) (omega (arith, length-shape q h b))) ∙ ap (shrunk (suc h)) (del .tree .shape);
-        block = record { inside = del .tree .block .inside; form = del .tree .block .form; enough = omega arith; fits = del .tree .block .fits };
+        block = block-least (omega arith) (del .tree .block);
         below = del .tree .below;
         blocks = del .tree .blocks;
         only = del .tree .only;
@@ -84,13 +85,7 @@ module _ (p m : List ℕ) (h b i r : ℕ) (q n : List ℕ) (del : Deleted (suc h
         record {
           taken = del .taken;
           tree = ap (shrunk (suc h)) (sym only-child ∙ del .tree .shape);
-          block =
-              record {
-                inside = below .0 .inside;
-                form = below .0 .form;
-                enough = omega (arith, below .0 .enough, root-least oneToAByte oneToAByte-proper h);
-                fits = below .0 .fits;
-              };
+          block = block-least (omega (arith, below .0 .enough, root-least oneToAByte oneToAByte-proper h)) (below .0);
           below = below .1;
           blocks = λ x. omega (arith, del .tree .blocks x, blocks-left x, given-blocks b n o given held x);
           only = del .tree .only;

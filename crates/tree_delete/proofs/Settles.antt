@@ -26,6 +26,7 @@ use Rattle.pool_entries.proofs.Telling.{entry-tells, apart-tells}
 use Rattle.pool_entries.specs.Entries.{TakeMark}
 use Rattle.pool_holders.specs.Maps.{isFree}
 use Rattle.pool_holders.proofs.Maps.{fits-after}
+use Rattle.tree_splits.proofs.SoundBlocks.{block-least, block-written}
 use Rattle.tree_delete.specs.Mends.{ShortReady, SettleReady, Mended}
 use Rattle.tree_delete.proofs.KeptParts.{part-shape, part-blocks, part-sound}
 use Rattle.tree_delete.proofs.ShortChildren.{each-part}
@@ -83,13 +84,7 @@ module _ (p m : List ℕ) (h b k c : ℕ) (ready : SettleReady p m h b k c) wher
     short-ready =
         record {
           map = fits-after p q m m (only .long) refl (ready .map);
-          block =
-              record {
-                inside = omega (arith, ready .block .inside, only .long);
-                form = form-kept b k (put .same) inside-branch ∙ ready .block .form;
-                enough = omega (arith, many, ready .block .enough);
-                fits = omega (arith, many, ready .block .fits);
-              };
+          block = block-written (ready .block) (only .long) (form-kept b k (put .same) inside-branch) many (ready .block .enough) (ready .block .fits);
           place = omega (arith, many, ready .place);
           others = λ j l other.
               let inside : j < entries p b = omega (arith, many) in
@@ -112,8 +107,7 @@ module _ (p m : List ℕ) (h b k c : ℕ) (ready : SettleReady p m h b k c) wher
     settled r n mended =
         record {
           shape = mended .shape ∙ ap (mend (least oneToAByte h) (most oneToAByte h)) same-shape;
-          block =
-              record { inside = mended .block .inside; form = mended .block .form; enough = omega (arith, mended .block .enough, many); fits = mended .block .fits };
+          block = block-least (omega (arith, mended .block .enough, many)) (mended .block);
           below = mended .below;
           blocks = λ x. mended .blocks x ∙ ap (λ (bs : List ℕ). count x bs + isFree m x) same-blocks;
           only =

@@ -29,6 +29,7 @@ use Rattle.pool_blocks.specs.Leaves.{MarkInserted}
 use Rattle.sequence.proofs.Items.{all-left, all-right}
 use Rattle.pool_holders.specs.Maps.{freeIn, BlockTaken}
 use Rattle.pool_holders.proofs.Takes.{taken-one, taken-free, taken-blocks, taken-entered, entered-none}
+use Rattle.tree_splits.proofs.SoundBlocks.{block-written}
 use Rattle.tree_splits.specs.Inserts.{InsertReady, Inserted, LeafSplit}
 
 -- the path of a leaf is its block
@@ -75,12 +76,7 @@ module _ (b i c holder : ℕ) (p m : List ℕ) (ready : InsertReady p m 0 b i c 
             ∙ sym (chop-fits (most oneToAByte zero) (insert c i (leafMarks p b)) (omega (arith, length-insert c i (leafMarks p b))));
         sound = (
           (
-            record {
-              inside = omega (arith, ready .block .inside, put .only .long);
-              form = put .form ∙ ready .block .form;
-              enough = omega (arith, put .many);
-              fits = omega (arith, put .many, ready-size);
-            },
+            block-written (ready .block) (put .only .long) (put .form) (put .many) (omega arith) (omega (arith, ready-size)),
             rw (put .marks) (allBelow-insert mostAlphabet c i (leafMarks p b) (ready .symbol) (ready .below)),
           ),
           tt,
@@ -113,12 +109,7 @@ module _ (b i c holder : ℕ) (p m : List ℕ) (ready : InsertReady p m 0 b i c 
           shapes = split .marks;
           sound = (
             (
-              record {
-                inside = omega (arith, ready .block .inside, split .only .long);
-                form = split .form ∙ ready .block .form;
-                enough = omega (arith, split .many);
-                fits = omega (arith, split .many);
-              },
+              block-written (ready .block) (split .only .long) (split .form) (split .many) (omega arith) (omega arith),
               halves .0,
             ),
             (
