@@ -42,11 +42,9 @@ module _ (p : List ℕ) (level b : ℕ) (leaf : level ≡ 0) where
   unfolding path
   leaf-found i mark before is = at-leaf (λ l. FoundIn p l b i mark before (before + 1)) level leaf (record { is = is; blocks = refl })
 
-  pub leaf-ranked : (c i r : ℕ) → r ≡ rank c (leafMarks p b) i → r ≡ rank c (flat level (shapeAt p level b)) i
-  leaf-ranked c i r is = at-leaf (λ l. r ≡ rank c (flat l (shapeAt p l b)) i) level leaf is
-
-  pub leaf-selected : (c j r : ℕ) → r ≡ select c (leafMarks p b) j → r ≡ select c (flat level (shapeAt p level b)) j
-  leaf-selected c j r is = at-leaf (λ l. r ≡ select c (flat l (shapeAt p l b)) j) level leaf is
+  -- its marks are the tree's
+  pub leaf-flat : flat level (shapeAt p level b) ≡ leafMarks p b
+  leaf-flat = at-leaf (λ l. flat l (shapeAt p l b) ≡ leafMarks p b) level leaf refl
 
 -- a branch; its level comes by the measure t, as `Good` hides it from a search
 module _ (t : ℕ) (p : List ℕ) (level b : ℕ) (at : level ≡ t) (good : Good p level b) (branch : level ≡ 0 → ⊥) where

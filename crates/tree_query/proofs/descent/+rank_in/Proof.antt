@@ -7,7 +7,7 @@ use borrow.Author.Needs.{needs}
 use borrow.Fn.Kinds.{In}
 use borrow.Fn.PlainCycle.{Measures, is, falls, and}
 use Rattle.pool_entries.proofs.Levels.{level-falls}
-use Rattle.tree_query.proofs.Descents.{leaf-at, leaf-place, leaf-ranked, branch-inside, branch-least, branch-most, child-good, place-left, ranked-below, ranked-fits}
+use Rattle.tree_query.proofs.Descents.{leaf-at, leaf-place, leaf-flat, branch-inside, branch-least, branch-most, child-good, place-left, ranked-below, ranked-fits}
 use Rattle.pool_entries.proofs.Seats.{seated-before, seated-low}
 use Rattle.pool_blocks.proofs.leaf.count_marks.Reads as count-marks-reads
 use Rattle.pool_entries.proofs.seat_by.Reads as seat-by-reads
@@ -50,7 +50,7 @@ pub +rank-in-spec : {M : Type 1} → statement M
     (rank-in-at t)
     rank-in.Post
     (λ c κs. search (leaf-at, leaf-place))  -- count-marks-requires
-    (λ c. search leaf-ranked)  -- returns
+    (λ c. search leaf-flat)  -- returns
     (λ c κs. search (branch-inside t, branch-least t, branch-most t, needs))  -- seat-by-requires
     (λ c. omega arith)
     (λ c. omega arith)

@@ -7,7 +7,7 @@ use borrow.Author.Needs.{needs}
 use borrow.Fn.Kinds.{In}
 use borrow.Fn.PlainCycle.{Measures, is, falls, and}
 use Rattle.pool_entries.proofs.Levels.{level-falls}
-use Rattle.tree_query.proofs.Descents.{leaf-at, leaf-selected, branch-inside, branch-least, branch-most, child-good, child-few, number-left, selected-below, selected-fits}
+use Rattle.tree_query.proofs.Descents.{leaf-at, leaf-flat, branch-inside, branch-least, branch-most, child-good, child-few, number-left, selected-below, selected-fits}
 use Rattle.pool_entries.proofs.Seats.{seated-before, seated-left, seated-low}
 use Rattle.pool_blocks.proofs.leaf.find_mark.Reads as find-mark-reads
 use Rattle.pool_entries.proofs.seat_by.Reads as seat-by-reads
@@ -50,7 +50,7 @@ pub +select-in-spec : {M : Type 1} → statement M
     (select-in-at t)
     select-in.Post
     (λ c κs. search leaf-at)  -- find-mark-requires
-    (λ c. search leaf-selected)  -- returns
+    (λ c. search leaf-flat)  -- returns
     (λ c. omega arith)
     (λ c. omega arith)
     (λ c κs. search (branch-inside t, branch-least t, branch-most t, needs))  -- seat-by-requires
