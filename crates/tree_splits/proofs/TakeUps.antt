@@ -118,11 +118,11 @@ module _ (p m : List ℕ) (h b k child new holder : ℕ) (split : SplitReady p m
   two-marks : marksIn h (shapeAt p h child) + marksIn h (shapeAt p h new) ≡ marksBelow p b k + 1
   two-marks = omega (arith, split .ready .marks)
 
-  pub left-small : SmallSums p h child
-  left-small = sums-small p h child (two-sound .0) (omega (arith, two-marks, split .ready .short))
+  pub child-small : SmallSums p h child
+  child-small = sums-small p h child (two-sound .0) (omega (arith, two-marks, split .ready .short))
 
-  pub right-small : SmallSums p h new
-  right-small = sums-small p h new (two-sound .1) (omega (arith, two-marks, split .ready .short))
+  pub new-small : SmallSums p h new
+  new-small = sums-small p h new (two-sound .1) (omega (arith, two-marks, split .ready .short))
 
   module _ (left : Summary) (q : List ℕ) (put : PutEntry b k child left p q) where
     many : entries q b ≡ entries p b
