@@ -1,7 +1,7 @@
 -- The choice among two or three children, by the measures of the first two: a number past the first goes to the second, and past both to
 -- the third if there is one.
 use mathlib.Core.Path.{_≡_, _∙_}
-use Prim.Native.Nat.{ℕ, zero, suc, _+_, _≤_, _<_}
+use Prim.Native.Nat.{ℕ, zero, suc, _+_, _-_, _≤_, _<_}
 use native.Mathlib.Omega.{arith}
 use Rattle.geometry.specs.Layout.{leastBranch, mostBranch}
 use Rattle.sequence.specs.Alphabet.{sumBelow}
@@ -53,3 +53,16 @@ seated-before m many i r seated = go (r .k) (seated .sum) (seated .past)
     go : (k : ℕ) → r .before ≡ sumBelow k m → (0 < k → r .before < i) → r .before ≤ i
     go zero sum past = omega arith
     go (suc k) sum past = omega (arith, past (omega arith))
+
+-- and below a number that isn't 0, so that some of it is left
+pub seated-left : (m : ℕ → ℕ) (many i : ℕ) (r : Seat) → Seated m many i r → 1 ≤ i → 1 ≤ i - r .before
+unfolding sumBelow
+seated-left m many i r seated one = go (r .k) (seated .sum) (seated .past)
+  where
+    go : (k : ℕ) → r .before ≡ sumBelow k m → (0 < k → r .before < i) → 1 ≤ i - r .before
+    go zero sum past = omega arith
+    go (suc k) sum past = omega (arith, past (omega arith))
+
+-- the child is one of the most that there are
+pub seated-low : (m : ℕ → ℕ) (many i : ℕ) (r : Seat) → Seated m many i r → many ≤ mostBranch → r .k < mostBranch
+seated-low m many i r seated most = omega (arith, seated .inside)

@@ -11,13 +11,13 @@ use Rattle.sequence.proofs.Alphabets.{allBelow-access}
 use Rattle.sequence.proofs.Counts.{isMark-same}
 use Rattle.sequence.proofs.Edits.{length-delete, count-delete}
 use Rattle.sequence.specs.Definition1.{isMark, count, access, delete}
-use Rattle.shape.proofs.Filled.{least-two, root-least}
+use Rattle.shape.proofs.Filled.{least-two}
 use Rattle.shape.proofs.Instances.{oneToAByte-proper}
 use Rattle.shape.proofs.Marks.{deleteNode-marks}
 use Rattle.shape.proofs.Steps.{deleteNode-takes, access-takes}
 use Rattle.shape.specs.Fill.{Within}
-use Rattle.shape.specs.Level.{Takes, mend}
-use Rattle.shape.specs.Nested.{Node, total, flat, marksIn}
+use Rattle.shape.specs.Level.{mend}
+use Rattle.shape.specs.Nested.{Node, flat, marksIn}
 use Rattle.shape.specs.Sizes.{oneToAByte, least, most}
 use Rattle.shape.specs.Trees.{deleteNode}
 use Rattle.pool.proofs.Changed.{only-then, only-wider}
@@ -25,20 +25,22 @@ use Rattle.pool.proofs.Children.{shape-around, shape-before, shape-after, told-
 use Rattle.pool.proofs.Frames.{same-entries, same-link, same-marksBelow, same-countBelow, same-block}
 use Rattle.pool.proofs.Froms.{from-same, map-from}
 use Rattle.pool.proofs.SoundTrees.{sound-marks}
-use Rattle.pool.proofs.Sums.{sumBelow-one, sumBelow-two, sumBelow-change}
+use Rattle.pool.proofs.Sums.{sumBelow-two, sumBelow-change}
 use Rattle.pool.specs.Blocks.{entries, link, marksBelow}
 use Rattle.pool.specs.Bytes.{from}
 use Rattle.pool.specs.Changes.{SameBlock, Only}
-use Rattle.pool.specs.Sound.{SoundBlock, Tells}
+use Rattle.pool.specs.Sound.{Tells}
 use Rattle.pool.specs.Trees.{shapeAt, blocksAt}
 use Rattle.sequence.specs.Alphabet.{sumBelow}
-use Rattle.pool_entries.proofs.SeatedChildren.{seated-takes, seated-total, seated-range}
+use Rattle.pool_entries.proofs.SeatedChildren.{seated-range}
 use Rattle.pool_entries.proofs.Telling.{entry-tells}
 use Rattle.pool_entries.specs.Seats.{Seated}
 use Rattle.pool_entries.specs.declared.Seat.{Seat}
 use Rattle.pool_holders.specs.Maps.{isFree}
 use Rattle.pool_holders.proofs.Maps.{fits-after}
 use Rattle.pool_holders.proofs.Frees.{freed-then, freed-grows}
+use Rattle.tree_splits.proofs.ChosenChildren.{child-blocks, child-told, child-takes, before-total, child-short, child-root}
+use Rattle.tree_splits.proofs.SoundBlocks.{block-least}
 use Rattle.tree_delete.specs.Mends.{SoundPart, SettleReady, Mended}
 use Rattle.tree_delete.specs.Removals.{DeleteReady, Deleted}
 use Rattle.tree_delete.proofs.KeptParts.{part-shape, part-blocks, part-sound}
@@ -54,44 +56,20 @@ module _ (p m : List ℕ) (h b i : ℕ) (ready : DeleteReady p m (suc h) b i) (s
   abbrev back : List (Node h)
   back = drop (suc (s .k)) (shapeAt p (suc h) b)
 
-  told : (k : ℕ) → k < entries p b → marksBelow p b k ≡ marksIn h (shapeAt p h (link p b k))
-  told k l = ready .below k l .2 .marks
-
-  takes : Takes (marksIn h) i front (shapeAt p h childOf) back
-  takes = seated-takes p h b length length-append (marksBelow p b) told i s seated
-
-  before-total : total (marksIn h) front ≡ s .before
-  before-total = seated-total p h b length length-append (marksBelow p b) told i s seated
-
-  around : shapeAt p (suc h) b ≡ front ++ shapeAt p h childOf ∷ back
-  around = shape-around p h b (s .k) (seated .inside)
-
   -- the place is in the child
   within : Within 1 (marksIn h (shapeAt p h childOf)) (i - s .before)
-  within = omega (arith, seated-range p h b length length-append (marksBelow p b) told i s seated (ready .last), ready .first)
-
-  -- the blocks below a child are the branch's too, and the branch is none of them
-  child-blocks : (j : ℕ) → j < entries p b → (x : ℕ) → isMark x b + count x (blocksAt p h (link p b j)) ≤ count x (blocksAt p (suc h) b)
-  child-blocks j inside x = omega (arith, count-blocks p h b x, sumBelow-one (entries p b) (λ k. count x (blocksAt p h (link p b k))) j inside)
+  within = omega (arith, seated-range p h b length length-append (marksBelow p b) (child-told p h b (ready .below)) i s seated (ready .last), ready .first)
 
   pub child-ready : DeleteReady p m h childOf (i - s .before)
   child-ready =
-      let block : SoundBlock p (least oneToAByte h) h childOf = ready .below (s .k) (seated .inside) .0 in
       record {
         map = ready .map;
-        block = record { inside = block .inside; form = block .form; enough = omega (arith, block .enough, root-least oneToAByte oneToAByte-proper h); fits = block .fits };
+        block = child-root p h b (ready .below) i s seated;
         below = ready .below (s .k) (seated .inside) .1;
-        agrees = λ x. omega (arith, ready .agrees x, child-blocks (s .k) (seated .inside) x);
+        agrees = λ x. omega (arith, ready .agrees x, child-blocks p h b (s .k) (seated .inside) x);
         first = within .enough;
         last = within .fits;
-        short =
-            omega (
-              arith,
-              ready .short,
-              told (s .k) (seated .inside),
-              sumBelow-one (entries p b) (marksBelow p b) (s .k) (seated .inside),
-              told-all p h b length length-append (marksBelow p b) told,
-            );
+        short = omega (arith, ready .short, child-short p h b (ready .below) i s seated);
       }
 
   -- the place was taken out of the child
@@ -101,7 +79,7 @@ module _ (p m : List ℕ) (h b i : ℕ) (ready : DeleteReady p m (suc h) b i) (s
 
     branch-same : SameBlock b p q
     branch-same =
-        only .others b (λ (among : 1 ≤ count b (blocksAt p h childOf)). omega (arith, ready .agrees b, child-blocks (s .k) (seated .inside) b, isMark-same b b refl))
+        only .others b (λ (among : 1 ≤ count b (blocksAt p h childOf)). omega (arith, ready .agrees b, child-blocks p h b (s .k) (seated .inside) b, isMark-same b b refl))
 
     many : entries q b ≡ entries p b
     many = same-entries p q b branch-same
@@ -142,18 +120,17 @@ module _ (p m : List ℕ) (h b i : ℕ) (ready : DeleteReady p m (suc h) b i) (s
           entry-tells q h b j (shapeAt p h (link p b j)) other-shape (same-marksBelow p q b branch-same j (omega (arith, ready .block .fits)) ∙ old .marks)
           (λ c small. same-countBelow p q b branch-same j c (omega (arith, ready .block .fits)) small ∙ old .counts c small)
 
+    -- what is summed over the children changed by the child's part alone
+    changed-sum : (f g : ℕ → ℕ) → ((j : ℕ) → j < entries p b → (j ≡ s .k → ⊥) → f j ≡ g j) → sumBelow (entries q b) f + g (s .k) ≡ sumBelow (entries p b) g + f (s .k)
+    changed-sum f g others = omega (arith, ap (λ (k : ℕ). sumBelow k f) many, sumBelow-change (entries p b) f g (s .k) (seated .inside) others)
+
     -- the blocks that left the branch's tree are free
     level-blocks : (x : ℕ) → count x (blocksAt q (suc h) b) + isFree n x ≡ count x (blocksAt p (suc h) b) + isFree m x
     level-blocks x =
-        let f : ℕ → ℕ = λ j. count x (blocksAt q h (link q b j)) in
-        let g : ℕ → ℕ = λ j. count x (blocksAt p h (link p b j)) in
-        let change : sumBelow (entries p b) f + g (s .k) ≡ sumBelow (entries p b) g + f (s .k) =
-        sumBelow-change (entries p b) f g (s .k) (seated .inside) (λ j inside other. ap (count x) (other-blocks j inside other)) in
         omega (
           arith,
-          change,
+          changed-sum (λ j. count x (blocksAt q h (link q b j))) (λ j. count x (blocksAt p h (link p b j))) (λ j inside other. ap (count x) (other-blocks j inside other)),
           count-blocks q h b x,
-          ap (λ (k : ℕ). sumBelow k f) many,
           count-blocks p h b x,
           ap (λ (c : ℕ). count x (blocksAt q h c)) here,
           del .tree .blocks x,
@@ -171,13 +148,10 @@ module _ (p m : List ℕ) (h b i : ℕ) (ready : DeleteReady p m (suc h) b i) (s
     level-short =
         let f : ℕ → ℕ = λ j. marksIn h (shapeAt q h (link q b j)) in
         let g : ℕ → ℕ = λ j. marksIn h (shapeAt p h (link p b j)) in
-        let change : sumBelow (entries p b) f + g (s .k) ≡ sumBelow (entries p b) g + f (s .k) =
-        sumBelow-change (entries p b) f g (s .k) (seated .inside) (λ j inside other. ap (marksIn h) (other-shape j inside other)) in
         omega (
           arith,
-          change,
+          changed-sum f g (λ j inside other. ap (marksIn h) (other-shape j inside other)),
           told-all q h b length length-append f (λ j l. refl),
-          ap (λ (k : ℕ). sumBelow k f) many,
           told-all p h b length length-append g (λ j l. refl),
           ap (λ (c : ℕ). marksIn h (shapeAt q h c)) here,
           one-less,
@@ -233,25 +207,28 @@ module _ (p m : List ℕ) (h b i : ℕ) (ready : DeleteReady p m (suc h) b i) (s
     pub level-deleted : (t o : List ℕ) → Mended h b q t n o → Deleted (suc h) b i r p t m o
     level-deleted t o mended =
         let x : Node h = shapeAt p h childOf in
+        let around = shape-around p h b (s .k) (seated .inside) in
+        let takes = child-takes p h b (ready .below) i s seated in
+        let before = before-total p h b (ready .below) i s seated in
         record {
           taken =
               del .taken
               ∙ sym (ap (λ (y : Node (suc h)). access (flat (suc h) y) i) around
               ∙ access-takes h i front x back takes (omega (arith, ready .last, ap (marksIn (suc h)) around)) (ready .first)
-              ∙ ap (λ (k : ℕ). access (flat h x) (i - k)) before-total);
+              ∙ ap (λ (k : ℕ). access (flat h x) (i - k)) before);
           tree =
               record {
                 shape =
                     mended .shape
                     ∙ ap (mend (least oneToAByte h) (most oneToAByte h)) level-shape
-                    ∙ ap (λ (k : ℕ). mend (least oneToAByte h) (most oneToAByte h) (front ++ deleteNode oneToAByte h (i - k) x ∷ back)) (sym before-total)
+                    ∙ ap (λ (k : ℕ). mend (least oneToAByte h) (most oneToAByte h) (front ++ deleteNode oneToAByte h (i - k) x ∷ back)) (sym before)
                     ∙ sym (ap (deleteNode oneToAByte (suc h) i) around ∙ deleteNode-takes oneToAByte h i front x back takes);
                 block =
-                    record { inside = mended .block .inside; form = mended .block .form; enough = omega (arith, mended .block .enough, many); fits = mended .block .fits };
+                    block-least (omega (arith, mended .block .enough, many)) (mended .block);
                 below = mended .below;
                 blocks = λ y. mended .blocks y ∙ level-blocks y;
                 only =
-                    only-then (only-wider _ (λ y among. omega (arith, child-blocks (s .k) (seated .inside) y)) only)
+                    only-then (only-wider _ (λ y among. omega (arith, child-blocks p h b (s .k) (seated .inside) y)) only)
                     (only-wider _ (λ y (among : 1 ≤ count y (blocksAt q (suc h) b)). omega (arith, level-blocks y, freed-grows m n (del .tree .freed) y)) (mended .only));
                 freed = freed-then m n o (del .tree .freed) (mended .freed);
               };

@@ -12,7 +12,7 @@ use Rattle.tree_splits.proofs.GoodEntries.{GoodEntry, blocksIn}
 use Rattle.tree_splits.proofs.KeptLists.{KeptList, kept-list}
 use Rattle.tree_delete.specs.Mends.{AllGood}
 
--- good entries, as the laws of `tree_insert` say it
+-- good entries, as the laws of `tree_splits` say it
 pub all-good : (p : List ℕ) (h : ℕ) (es : List (List ℕ)) → AllGood p h es → All (GoodEntry p h) es
 all-good p h es good = all-map (λ e. SoundChild p h (linkIn e) × TrueEntry p h e) (GoodEntry p h) (λ e g. record { sound = g .0; true = g .1 }) es good
 

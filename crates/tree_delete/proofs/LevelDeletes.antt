@@ -1,23 +1,22 @@
 -- A delete by level, as the code tells levels apart: at a leaf a mark is taken out, at a branch the child's delete is taken up.
-use mathlib.Core.Path.{_≡_, refl, _∙_}
+use mathlib.Core.Path.{_≡_, refl}
 use mathlib.Core.List.{List}
-use Prim.Native.Nat.{ℕ, _-_, _≤_, _<_}
+use Prim.Native.Nat.{ℕ, _-_, _≤_}
 use native.Mathlib.Omega.{arith}
 use lib.ListN.{length}
-use Rattle.geometry.specs.Layout.{leastBranch, mostBranch}
+use Rattle.geometry.specs.Layout.{leastBranch}
 use Rattle.geometry.specs.Limits.{mostAlphabet}
 use Rattle.sequence.proofs.Edits.{allBelow-delete}
 use Rattle.shape.specs.Trees.{deleteNode}
 use Rattle.pool.proofs.Changed.{only-wider}
 use Rattle.pool.specs.Blocks.{entries, leafMarks, link, marksBelow}
-use Rattle.pool.specs.Bytes.{shares}
-use Rattle.pool_blocks.specs.Contents.{LeafAt}
 use Rattle.pool_blocks.specs.Leaves.{MarkDeleted}
 use Rattle.pool_entries.proofs.Levels.{at-leaf, at-branch}
 use Rattle.pool_entries.specs.Summaries.{Is}
 use Rattle.pool_entries.specs.Seats.{Seated}
 use Rattle.pool_entries.specs.declared.Seat.{Seat}
 use Rattle.pool_holders.proofs.Frees.{freed-none}
+use Rattle.tree_splits.proofs.SoundBlocks.{block-written}
 use Rattle.tree_delete.specs.Mends.{SettleReady, Mended}
 use Rattle.tree_delete.specs.Removals.{DeleteReady, Deleted}
 use Rattle.tree_delete.proofs.ChildDeletes.{child-ready, settle-ready, level-deleted}
@@ -25,10 +24,8 @@ use Rattle.tree_delete.proofs.PairMends.{own-block}
 
 -- A leaf.
 module _ (p m : List ℕ) (level b i : ℕ) (leaf : level ≡ 0) where
-  pub leaf-ready : DeleteReady p m level b i → LeafAt p b × (1 ≤ i) × (i ≤ length (leafMarks p b))
-  leaf-ready =
-      at-leaf (λ l. DeleteReady p m l b i → LeafAt p b × (1 ≤ i) × (i ≤ length (leafMarks p b))) level leaf
-      (λ ready. (record { inside = ready .block .inside; fits = ready .block .fits }, ready .first, ready .last))
+  pub leaf-last : DeleteReady p m level b i → i ≤ length (leafMarks p b)
+  leaf-last = at-leaf (λ l. DeleteReady p m l b i → i ≤ length (leafMarks p b)) level leaf (λ ready. ready .last)
 
   leaf-deleted-at : (r : ℕ) (q : List ℕ) → DeleteReady p m 0 b i → MarkDeleted b i r p q → Deleted 0 b i r p q m m
   unfolding deleteNode
@@ -38,13 +35,7 @@ module _ (p m : List ℕ) (level b i : ℕ) (leaf : level ≡ 0) where
         tree =
             record {
               shape = del .marks;
-              block =
-                  record {
-                    inside = omega (arith, ready .block .inside, del .only .long);
-                    form = del .form ∙ ready .block .form;
-                    enough = omega (arith, del .many);
-                    fits = omega (arith, del .many, ready .block .fits);
-                  };
+              block = block-written (ready .block) (del .only .long) (del .form) (del .many) (omega arith) (omega (arith, ready .block .fits));
               below = rw (del .marks) (allBelow-delete mostAlphabet i (leafMarks p b) (ready .below));
               blocks = λ x. refl;
               only = only-wider _ (λ x e. rw e (own-block p 0 b)) (del .only);
@@ -57,15 +48,10 @@ module _ (p m : List ℕ) (level b i : ℕ) (leaf : level ≡ 0) where
 
 -- A branch.
 module _ (p m : List ℕ) (level b i : ℕ) (branch : level ≡ 0 → ⊥) where
-  pub branch-ready : DeleteReady p m level b i → (b < shares p) × (leastBranch ≤ entries p b) × (entries p b ≤ mostBranch)
-  branch-ready =
-      at-branch (λ l d. DeleteReady p m l b i → (b < shares p) × (leastBranch ≤ entries p b) × (entries p b ≤ mostBranch)) level branch
-      (λ h ready. (ready .block .inside, ready .block .enough, ready .block .fits))
+  pub branch-least : DeleteReady p m level b i → leastBranch ≤ entries p b
+  branch-least = at-branch (λ l d. DeleteReady p m l b i → leastBranch ≤ entries p b) level branch (λ h ready. ready .block .enough)
 
   module _ (s : Seat) (seated : Seated (marksBelow p b) (entries p b) i s) where
-    pub link-ready : DeleteReady p m level b i → (b < shares p) × (s .k < mostBranch)
-    link-ready ready = let block = branch-ready ready in (block .0, omega (arith, block .2, seated .inside))
-
     module _ (child : ℕ) (at : Is (link p b (s .k)) child) where
       pub below-ready : DeleteReady p m level b i → DeleteReady p m (level - 1) child (i - s .before)
       below-ready =

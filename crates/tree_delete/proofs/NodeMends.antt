@@ -24,10 +24,11 @@ use Rattle.pool.specs.Changes.{Only}
 use Rattle.pool.specs.Trees.{shapeAt, blocksAt}
 use Rattle.pool_blocks.proofs.Branches.{entries-length}
 use Rattle.pool_blocks.specs.Branches.{BranchesJoined, BranchesShared}
-use Rattle.pool_blocks.specs.Contents.{entryList, LeafAt, BranchAt}
+use Rattle.pool_blocks.specs.Contents.{entryList}
 use Rattle.pool_blocks.specs.Leaves.{LeavesJoined, LeavesShared}
 use Rattle.tree_splits.proofs.GoodEntries.{GoodEntry, shapeIn, blocksIn, below-good, good-below, shape-entries, blocks-entries}
 use Rattle.tree_splits.proofs.Pieces.{map-append, map-chop}
+use Rattle.tree_splits.proofs.SoundBlocks.{block-written}
 use Rattle.tree_delete.specs.Mends.{TwoNodes, NodesJoined, NodesShared}
 use Rattle.tree_delete.proofs.KeptTrees.{kept-entries}
 
@@ -50,17 +51,8 @@ nodes-other p (suc h) left right two e = omega (arith, two .apart left, isMark-s
 
 -- Leaves.
 module _ (p q : List ℕ) (left right : ℕ) (two : TwoNodes p zero left right) where
-  pub leaf-pair : LeafAt p left × LeafAt p right
-  leaf-pair = (
-    record { inside = two .first .0 .inside; fits = two .first .0 .fits },
-    record { inside = two .second .0 .inside; fits = two .second .0 .fits },
-  )
-
   sizes : length (leafMarks p left) + length (leafMarks p right) ≡ entries p left + entries p right
   sizes = omega (arith, length-leaf p left 1 (two .first .0), length-leaf p right 1 (two .second .0))
-
-  pub leaves-fit : entries p left + entries p right ≤ mostLeaf → length (leafMarks p left) + length (leafMarks p right) ≤ mostLeaf
-  leaves-fit fit = omega (arith, sizes)
 
   abbrev together : List ℕ
   together = leafMarks p left ++ leafMarks p right
@@ -74,12 +66,7 @@ module _ (p q : List ℕ) (left right : ℕ) (two : TwoNodes p zero left right) 
             ∙ sym (chop-fits mostLeaf together (omega (arith, length-append (leafMarks p left) (leafMarks p right), sizes)));
         sound = (
           (
-            record {
-              inside = omega (arith, two .first .0 .inside, join .only .long);
-              form = join .form ∙ two .first .0 .form;
-              enough = omega (arith, join .many, two .enough);
-              fits = omega (arith, join .many);
-            },
+            block-written (two .first .0) (join .only .long) (join .form) (join .many) (two .enough) fit,
             rw (join .marks) (all-append (λ x. x < mostAlphabet) (leafMarks p left) (leafMarks p right) (two .first .1) (two .second .1)),
           ),
           tt,
@@ -98,22 +85,12 @@ module _ (p q : List ℕ) (left right : ℕ) (two : TwoNodes p zero left right) 
         shapes = sym (chop-halves mostLeaf together (omega (arith, length-append (leafMarks p left) (leafMarks p right), sizes)) ∙ share .marks);
         sound = (
           (
-            record {
-              inside = omega (arith, two .first .0 .inside, share .only .long);
-              form = share .leftForm ∙ two .first .0 .form;
-              enough = omega (arith, share .leftMany);
-              fits = omega (arith, share .leftMany, two .first .0 .fits, two .second .0 .fits);
-            },
+            block-written (two .first .0) (share .only .long) (share .leftForm) (share .leftMany) (omega arith) (omega (arith, two .first .0 .fits, two .second .0 .fits)),
             rw front (all-take (λ x. x < mostAlphabet) (middle together) together all),
           ),
           (
             (
-              record {
-                inside = omega (arith, two .second .0 .inside, share .only .long);
-                form = share .rightForm ∙ two .second .0 .form;
-                enough = omega (arith, share .rightMany);
-                fits = omega (arith, share .rightMany, two .first .0 .fits, two .second .0 .fits);
-              },
+              block-written (two .second .0) (share .only .long) (share .rightForm) (share .rightMany) (omega arith) (omega (arith, two .first .0 .fits, two .second .0 .fits)),
               rw back (all-drop (λ x. x < mostAlphabet) (middle together) together all),
             ),
             tt,
@@ -125,12 +102,6 @@ module _ (p q : List ℕ) (left right : ℕ) (two : TwoNodes p zero left right) 
 
 -- Branches.
 module _ (p q : List ℕ) (h left right : ℕ) (two : TwoNodes p (suc h) left right) where
-  pub branch-pair : BranchAt p left × BranchAt p right
-  branch-pair = (
-    record { inside = two .first .0 .inside; fits = two .first .0 .fits },
-    record { inside = two .second .0 .inside; fits = two .second .0 .fits },
-  )
-
   abbrev all-entries : List (List ℕ)
   all-entries = entryList p left ++ entryList p right
 
@@ -189,12 +160,7 @@ module _ (p q : List ℕ) (h left right : ℕ) (two : TwoNodes p (suc h) left ri
             ∙ sym (chop-fits mostBranch _ (omega (arith, ap length all-shapes, length-map all-entries (shapeIn p h), many-entries)));
         sound = (
           (
-            record {
-              inside = omega (arith, two .first .0 .inside, join .only .long);
-              form = join .form ∙ two .first .0 .form;
-              enough = omega (arith, join .many, two .enough);
-              fits = omega (arith, join .many);
-            },
+            block-written (two .first .0) (join .only .long) (join .form) (join .many) (two .enough) fit,
             good-below q h left (rw list (still-good only)),
           ),
           tt,
@@ -221,22 +187,12 @@ module _ (p q : List ℕ) (h left right : ℕ) (two : TwoNodes p (suc h) left ri
             ∙ ap (chop mostBranch) (same-shapes only);
         sound = (
           (
-            record {
-              inside = omega (arith, two .first .0 .inside, share .only .long);
-              form = share .leftForm ∙ two .first .0 .form;
-              enough = omega (arith, share .leftMany);
-              fits = omega (arith, share .leftMany, two .first .0 .fits, two .second .0 .fits);
-            },
+            block-written (two .first .0) (share .only .long) (share .leftForm) (share .leftMany) (omega arith) (omega (arith, two .first .0 .fits, two .second .0 .fits)),
             good-below q h left (rw front (all-take (GoodEntry q h) half all-entries (still-good only))),
           ),
           (
             (
-              record {
-                inside = omega (arith, two .second .0 .inside, share .only .long);
-                form = share .rightForm ∙ two .second .0 .form;
-                enough = omega (arith, share .rightMany);
-                fits = omega (arith, share .rightMany, two .first .0 .fits, two .second .0 .fits);
-              },
+              block-written (two .second .0) (share .only .long) (share .rightForm) (share .rightMany) (omega arith) (omega (arith, two .first .0 .fits, two .second .0 .fits)),
               good-below q h right (rw back (all-drop (GoodEntry q h) half all-entries (still-good only))),
             ),
             tt,
@@ -255,23 +211,15 @@ module _ (p q : List ℕ) (h left right : ℕ) (two : TwoNodes p (suc h) left ri
 
 -- By level, as the code tests it.
 module _ (p : List ℕ) (left right : ℕ) where
-  pub join-leaves-ready : (level : ℕ) → level ≡ 0 → TwoNodes p level left right → entries p left + entries p right ≤ most oneToAByte level
-      → LeafAt p left × LeafAt p right × (length (leafMarks p left) + length (leafMarks p right) ≤ mostLeaf)
-  join-leaves-ready zero e two fit = (leaf-pair p p left right two .0, leaf-pair p p left right two .1, leaves-fit p p left right two fit)
-  join-leaves-ready (suc h) e two fit = absurd (omega arith)
+  pub leaves-fit : (level : ℕ) → level ≡ 0 → TwoNodes p level left right → entries p left + entries p right ≤ most oneToAByte level
+      → length (leafMarks p left) + length (leafMarks p right) ≤ mostLeaf
+  leaves-fit zero e two fit = omega (arith, sizes p p left right two)
+  leaves-fit (suc h) e two fit = absurd (omega arith)
 
-  pub join-branches-ready : (level : ℕ) → (level ≡ 0 → ⊥) → TwoNodes p level left right → entries p left + entries p right ≤ most oneToAByte level
-      → BranchAt p left × BranchAt p right × (entries p left + entries p right ≤ mostBranch)
-  join-branches-ready zero some two fit = absurd (some refl)
-  join-branches-ready (suc h) some two fit = (branch-pair p p h left right two .0, branch-pair p p h left right two .1, fit)
-
-  pub share-leaves-ready : (level : ℕ) → level ≡ 0 → TwoNodes p level left right → LeafAt p left × LeafAt p right × (left ≡ right → ⊥)
-  share-leaves-ready zero e two = (leaf-pair p p left right two .0, leaf-pair p p left right two .1, nodes-other p zero left right two)
-  share-leaves-ready (suc h) e two = absurd (omega arith)
-
-  pub share-branches-ready : (level : ℕ) → (level ≡ 0 → ⊥) → TwoNodes p level left right → BranchAt p left × BranchAt p right × (left ≡ right → ⊥)
-  share-branches-ready zero some two = absurd (some refl)
-  share-branches-ready (suc h) some two = (branch-pair p p h left right two .0, branch-pair p p h left right two .1, nodes-other p (suc h) left right two)
+  pub branches-fit : (level : ℕ) → (level ≡ 0 → ⊥) → TwoNodes p level left right → entries p left + entries p right ≤ most oneToAByte level
+      → entries p left + entries p right ≤ mostBranch
+  branches-fit zero some two fit = absurd (some refl)
+  branches-fit (suc h) some two fit = fit
 
   module _ (q : List ℕ) where
     pub joined-leaves : (level : ℕ) → level ≡ 0 → TwoNodes p level left right → entries p left + entries p right ≤ most oneToAByte level

@@ -16,7 +16,6 @@ use Rattle.pool.proofs.Changed.{only-then}
 use Rattle.pool.proofs.Frames.{same-byte, same-entries}
 use Rattle.pool.proofs.Lists.{total-map}
 use Rattle.pool.specs.Blocks.{formOf, entries, link}
-use Rattle.pool.specs.Bytes.{shares}
 use Rattle.pool.specs.Changes.{SameBlock}
 use Rattle.pool.specs.Trees.{shapeAt, blocksAt}
 use Rattle.pool.specs.Words.{wordLimit}
@@ -31,7 +30,7 @@ use Rattle.pool_holders.specs.Maps.{isFree, GivenBack}
 use Rattle.pool_holders.proofs.Frees.{given-blocks, given-freed, freed-none}
 use Rattle.tree_splits.proofs.EntryPuts.{entry-holds}
 use Rattle.tree_splits.proofs.SameEntries.{same-entry-list}
-use Rattle.tree_splits.proofs.TakeUps.{holds-true, summary-ready}
+use Rattle.tree_splits.proofs.TakeUps.{holds-true, sums-small}
 use Rattle.tree_delete.specs.Mends.{TwoNodes, NodesMended, NodesJoined, NodesShared, PairOf, PairMended}
 use Rattle.tree_delete.proofs.PairMends.{own-block, all-blocks, pair-nodes, right-held, pair-mended}
 
@@ -116,11 +115,11 @@ module _ (p m : List ℕ) (h b k left right : ℕ) (pair : PairOf p m h b k left
           entry-written q r b k branch-at (omega (arith, many, pair .ready .place)) (put .same)
           ∙ ap (λ (es : List (List ℕ)). take k es ++ entryBytes r b k ∷ drop (suc k) es) same-list
 
-      pub still-branch : BranchAt r b × (k + 1 < entries r b)
-      still-branch = (
-        record { inside = omega (arith, branch-at .inside, put .same .long); fits = omega (arith, branch-at .fits, entries-kept b k (put .same) low) },
-        omega (arith, entries-kept b k (put .same) low, many, pair .ready .place),
-      )
+      still-branch : BranchAt r b
+      still-branch = record { inside = omega (arith, branch-at .inside, put .same .long); fits = omega (arith, branch-at .fits, entries-kept b k (put .same) low) }
+
+      still-behind : k + 1 < entries r b
+      still-behind = omega (arith, entries-kept b k (put .same) low, many, pair .ready .place)
 
       before-next : take (k + 1) (entryList r b) ≡ take k (entryList p b) ++ entryBytes r b k ∷ []
       before-next =
@@ -135,8 +134,12 @@ module _ (p m : List ℕ) (h b k left right : ℕ) (pair : PairOf p m h b k left
 
 -- Joined.
 module _ (p m : List ℕ) (h b k left right : ℕ) (pair : PairOf p m h b k left right) (q : List ℕ) (joined : NodesJoined h left right p q) where
-  pub joined-summary : (left < shares q) × (entries q left ≤ most oneToAByte h) × SmallSums q h left
-  joined-summary = summary-ready q h left (joined .sound .0) (omega (arith, roots-marks p m h b k left right pair _ _ q joined))
+  pub joined-small : SmallSums q h left
+  joined-small = sums-small q h left (joined .sound .0) (omega (arith, roots-marks p m h b k left right pair _ _ q joined))
+
+  -- after the entry was written, the branch can lose the next one
+  pub remove-ready : {s : Summary} {r : List ℕ} → PutEntry b k left s q r → BranchAt r b × (k + 1 < entries r b)
+  remove-ready put = (still-branch p m h b k left right pair _ _ q joined _ _ put, still-behind p m h b k left right pair _ _ q joined _ _ put)
 
   pub join-returns : (s : Summary) (r t n : List ℕ) → SummaryOf q h left s → PutEntry b k left s q r → EntryRemoved b (k + 1) r t → GivenBack right m n → PairMended h b k p t m n
   unfolding count
@@ -158,11 +161,11 @@ module _ (p m : List ℕ) (h b k left right : ℕ) (pair : PairOf p m h b k left
 
 -- Shared out.
 module _ (p m : List ℕ) (h b k left right : ℕ) (pair : PairOf p m h b k left right) (q : List ℕ) (shared : NodesShared h left right p q) where
-  pub first-summary : (left < shares q) × (entries q left ≤ most oneToAByte h) × SmallSums q h left
-  first-summary = summary-ready q h left (shared .sound .0) (omega (arith, roots-marks p m h b k left right pair _ _ q shared))
+  pub first-small : SmallSums q h left
+  first-small = sums-small q h left (shared .sound .0) (omega (arith, roots-marks p m h b k left right pair _ _ q shared))
 
-  pub second-summary : (right < shares q) × (entries q right ≤ most oneToAByte h) × SmallSums q h right
-  second-summary = summary-ready q h right (shared .sound .1 .0) (omega (arith, roots-marks p m h b k left right pair _ _ q shared))
+  pub second-small : SmallSums q h right
+  second-small = sums-small q h right (shared .sound .1 .0) (omega (arith, roots-marks p m h b k left right pair _ _ q shared))
 
   pub share-returns : (s u : Summary) (r t : List ℕ) → SummaryOf q h left s → SummaryOf q h right u → PutEntry b k left s q r → PutEntry b (k + 1) right u r t
       → PairMended h b k p t m m
@@ -174,10 +177,11 @@ module _ (p m : List ℕ) (h b k left right : ℕ) (pair : PairOf p m h b k left
       let holdsNext = entry-holds b (k + 1) right u r t next in
       let inside : k < mostBranch = low p m h b k left right pair _ _ q shared in
       let branch = still-branch p m h b k left right pair _ _ q shared s r put in
-      let insideNext : k + 1 < mostBranch = omega (arith, branch .1, branch .0 .fits) in
+      let behind = still-behind p m h b k left right pair _ _ q shared s r put in
+      let insideNext : k + 1 < mostBranch = omega (arith, behind, branch .fits) in
       let two : suc (k + 1) ≡ suc (suc k) = omega arith in
       let list : entryList t b ≡ take k (entryList p b) ++ (e ∷ f ∷ drop (suc (suc k)) (entryList p b)) =
-      entry-written r t b (k + 1) (branch .0) (branch .1) (next .same)
+      entry-written r t b (k + 1) branch behind (next .same)
       ∙ ap₂ (λ (x y : List (List ℕ)). x ++ f ∷ y) (before-next p m h b k left right pair _ _ q shared s r put) (behind-next p m h b k left right pair _ _ q shared s r put (suc (k + 1)) two)
       ∙ append-assoc (take k (entryList p b)) (e ∷ []) (f ∷ drop (suc (suc k)) (entryList p b)) in
       pair-mended p m h b k (pair .ready) (left ∷ right ∷ []) [] q t m (named-so h left right _ _ (left ∷ right ∷ []) [] p q (pair .leftIs) (pair .rightIs) shared) (e ∷ f ∷ [])

@@ -20,6 +20,7 @@ use Rattle.pool_entries.proofs.Levels.{at-leaf, at-branch}
 use Rattle.pool_entries.specs.Summaries.{Is}
 use Rattle.pool_holders.specs.Maps.{isFree, GivenBack}
 use Rattle.pool_holders.proofs.Frees.{given-blocks, given-freed, freed-then}
+use Rattle.tree_splits.proofs.SoundBlocks.{block-least}
 use Rattle.tree_delete.specs.Removals.{DeleteReady, Deleted}
 use Rattle.tree_delete.specs.Trees.{TreeDeleted}
 use Rattle.tree_delete.proofs.PairMends.{own-block}
@@ -31,21 +32,21 @@ shrunk-whole h (x ∷ []) many = absurd (omega arith)
 shrunk-whole h (x ∷ y ∷ ys) many = refl
 
 -- a leaf stays the root
-leaf-kept : (p m : List ℕ) (b i : ℕ) → DeleteReady p m 0 b i → (r : ℕ) (q n : List ℕ) → Deleted 0 b i r p q m n
+leaf-kept : (p m : List ℕ) (b i r : ℕ) (q n : List ℕ) → Deleted 0 b i r p q m n
     → TreeDeleted 0 b i (record { mark = r; level = 0; root = b }) p q m n
 unfolding deleteT shrunk
-leaf-kept p m b i ready r q n del =
+leaf-kept p m b i r q n del =
     record {
       taken = del .taken;
       tree = ap (λ (x : Node zero). record { height = zero; root = x }) (del .tree .shape);
-      block = record { inside = del .tree .block .inside; form = del .tree .block .form; enough = omega arith; fits = del .tree .block .fits };
+      block = block-least (omega arith) (del .tree .block);
       below = del .tree .below;
       blocks = del .tree .blocks;
       only = del .tree .only;
       freed = del .tree .freed;
     }
 
-module _ (p m : List ℕ) (h b i : ℕ) (ready : DeleteReady p m (suc h) b i) (r : ℕ) (q n : List ℕ) (del : Deleted (suc h) b i r p q m n) where
+module _ (p m : List ℕ) (h b i r : ℕ) (q n : List ℕ) (del : Deleted (suc h) b i r p q m n) where
   -- a branch with two children at least stays the root
   branch-kept : 1 < entries q b → TreeDeleted (suc h) b i (record { mark = r; level = suc h; root = b }) p q m n
   unfolding deleteT
@@ -54,7 +55,7 @@ module _ (p m : List ℕ) (h b i : ℕ) (ready : DeleteReady p m (suc h) b i) (r
         taken = del .taken;
         tree =
             sym (shrunk-whole h (shapeAt q (suc h) b) (omega (arith, length-shape q h b))) ∙ ap (shrunk (suc h)) (del .tree .shape);
-        block = record { inside = del .tree .block .inside; form = del .tree .block .form; enough = omega arith; fits = del .tree .block .fits };
+        block = block-least (omega arith) (del .tree .block);
         below = del .tree .below;
         blocks = del .tree .blocks;
         only = del .tree .only;
@@ -62,7 +63,7 @@ module _ (p m : List ℕ) (h b i : ℕ) (ready : DeleteReady p m (suc h) b i) (r
       }
 
   -- the only child takes its place
-  module _ (few : entries q b ≤ 1) (o : List ℕ) (given : GivenBack b n o) where
+  module _ (ready : DeleteReady p m (suc h) b i) (few : entries q b ≤ 1) (o : List ℕ) (given : GivenBack b n o) where
     one : entries q b ≡ 1
     one = omega (arith, del .tree .block .enough, ready .block .enough)
 
@@ -84,13 +85,7 @@ module _ (p m : List ℕ) (h b i : ℕ) (ready : DeleteReady p m (suc h) b i) (r
         record {
           taken = del .taken;
           tree = ap (shrunk (suc h)) (sym only-child ∙ del .tree .shape);
-          block =
-              record {
-                inside = below .0 .inside;
-                form = below .0 .form;
-                enough = omega (arith, below .0 .enough, root-least oneToAByte oneToAByte-proper h);
-                fits = below .0 .fits;
-              };
+          block = block-least (omega (arith, below .0 .enough, root-least oneToAByte oneToAByte-proper h)) (below .0);
           below = below .1;
           blocks = λ x. omega (arith, del .tree .blocks x, blocks-left x, given-blocks b n o given held x);
           only = del .tree .only;
@@ -98,21 +93,21 @@ module _ (p m : List ℕ) (h b i : ℕ) (ready : DeleteReady p m (suc h) b i) (r
         }
 
 -- The same as the code tells levels apart.
-module _ (p m : List ℕ) (level b i : ℕ) (ready : DeleteReady p m level b i) (r : ℕ) (q n : List ℕ) (del : Deleted level b i r p q m n) where
+module _ (p m : List ℕ) (level b i r : ℕ) (q n : List ℕ) (del : Deleted level b i r p q m n) where
   pub root-leaf : level ≡ 0 → TreeDeleted level b i (record { mark = r; level = level; root = b }) p q m n
   root-leaf leaf =
-      at-leaf (λ l. DeleteReady p m l b i → Deleted l b i r p q m n → TreeDeleted l b i (record { mark = r; level = l; root = b }) p q m n) level leaf
-      (λ ready del. leaf-kept p m b i ready r q n del) ready del
+      at-leaf (λ l. Deleted l b i r p q m n → TreeDeleted l b i (record { mark = r; level = l; root = b }) p q m n) level leaf
+      (λ del. leaf-kept p m b i r q n del) del
 
   module _ (branch : level ≡ 0 → ⊥) where
-    pub root-kept : (many : ℕ) → Is (entries q b) many → 1 < many → TreeDeleted level b i (record { mark = r; level = level; root = b }) p q m n
-    root-kept many counted more =
-        at-branch (λ l d. DeleteReady p m l b i → Deleted l b i r p q m n → TreeDeleted l b i (record { mark = r; level = l; root = b }) p q m n) level branch
-        (λ h ready del. branch-kept p m h b i ready r q n del (omega (arith, counted .is))) ready del
+    pub root-kept : 1 < entries q b → TreeDeleted level b i (record { mark = r; level = level; root = b }) p q m n
+    root-kept more =
+        at-branch (λ l d. Deleted l b i r p q m n → TreeDeleted l b i (record { mark = r; level = l; root = b }) p q m n) level branch
+        (λ h del. branch-kept p m h b i r q n del more) del
 
-    pub root-gone : (many : ℕ) → Is (entries q b) many → many ≤ 1 → (root : ℕ) → Is (link q b 0) root → (o : List ℕ) → GivenBack b n o
+    pub root-gone : DeleteReady p m level b i → entries q b ≤ 1 → (root : ℕ) → Is (link q b 0) root → (o : List ℕ) → GivenBack b n o
         → TreeDeleted level b i (record { mark = r; level = level - 1; root = root }) p q m o
-    root-gone many counted few root linked o given =
+    root-gone ready few root linked o given =
         rw (linked .is)
         (at-branch (λ l d. DeleteReady p m l b i → Deleted l b i r p q m n → TreeDeleted l b i (record { mark = r; level = d; root = link q b 0 }) p q m o) level branch
-        (λ h ready del. branch-gone p m h b i ready r q n del (omega (arith, counted .is)) o given) ready del)
+        (λ h ready del. branch-gone p m h b i r q n del ready few o given) ready del)

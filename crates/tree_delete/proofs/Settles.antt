@@ -5,7 +5,6 @@ use mathlib.Core.Logic.{⊎-elim}
 use Prim.Native.Nat.{ℕ, suc, _+_, _-_, _≤_, _<_}
 use native.Mathlib.Omega.{arith}
 use Rattle.geometry.specs.Layout.{mostBranch}
-use Rattle.geometry.specs.Limits.{mostAlphabet}
 use Rattle.sequence.proofs.Counts.{isMark-same, isMark-other, isMark-cases}
 use Rattle.sequence.specs.Definition1.{count}
 use Rattle.shape.proofs.Filled.{least-two}
@@ -19,7 +18,7 @@ use Rattle.pool.proofs.Froms.{all-from, from-same}
 use Rattle.pool.proofs.Lists.{joined-same, map-same}
 use Rattle.pool.proofs.Sums.{sumBelow-one}
 use Rattle.pool.specs.Blocks.{entries, link, marksBelow, countBelow, children}
-use Rattle.pool.specs.Bytes.{shares, from}
+use Rattle.pool.specs.Bytes.{from}
 use Rattle.pool.specs.Changes.{Only}
 use Rattle.pool.specs.Trees.{shapeAt, blocksAt}
 use Rattle.pool_entries.proofs.Neighbours.{link-apart, entries-kept, form-kept, only-entry}
@@ -27,6 +26,7 @@ use Rattle.pool_entries.proofs.Telling.{entry-tells, apart-tells}
 use Rattle.pool_entries.specs.Entries.{TakeMark}
 use Rattle.pool_holders.specs.Maps.{isFree}
 use Rattle.pool_holders.proofs.Maps.{fits-after}
+use Rattle.tree_splits.proofs.SoundBlocks.{block-least, block-written}
 use Rattle.tree_delete.specs.Mends.{ShortReady, SettleReady, Mended}
 use Rattle.tree_delete.proofs.KeptParts.{part-shape, part-blocks, part-sound}
 use Rattle.tree_delete.proofs.ShortChildren.{each-part}
@@ -35,14 +35,14 @@ module _ (p m : List ℕ) (h b k c : ℕ) (ready : SettleReady p m h b k c) wher
   two : 2 ≤ least oneToAByte h
   two = least-two oneToAByte oneToAByte-proper h
 
-  inside-branch : k < mostBranch
+  pub inside-branch : k < mostBranch
   inside-branch = omega (arith, ready .place, ready .block .fits)
 
-  pub take-ready : ((b < shares p) × (k < mostBranch) × (c < mostAlphabet)) × ((0 < marksBelow p b k) × (0 < countBelow p b k c))
-  take-ready = (
-    (ready .block .inside, inside-branch, ready .symbol),
-    (omega (arith, ready .marks), omega (arith, ready .counts c (ready .symbol), isMark-same c c refl)),
-  )
+  pub marks-there : 0 < marksBelow p b k
+  marks-there = omega (arith, ready .marks)
+
+  pub count-there : 0 < countBelow p b k c
+  count-there = omega (arith, ready .counts c (ready .symbol), isMark-same c c refl)
 
   -- the branch is in no child's tree
   apart : (j : ℕ) → j < entries p b → (y : ℕ) → 1 ≤ count y (blocksAt p h (link p b j)) → y ≡ b → ⊥
@@ -84,13 +84,7 @@ module _ (p m : List ℕ) (h b k c : ℕ) (ready : SettleReady p m h b k c) wher
     short-ready =
         record {
           map = fits-after p q m m (only .long) refl (ready .map);
-          block =
-              record {
-                inside = omega (arith, ready .block .inside, only .long);
-                form = form-kept b k (put .same) inside-branch ∙ ready .block .form;
-                enough = omega (arith, many, ready .block .enough);
-                fits = omega (arith, many, ready .block .fits);
-              };
+          block = block-written (ready .block) (only .long) (form-kept b k (put .same) inside-branch) many (ready .block .enough) (ready .block .fits);
           place = omega (arith, many, ready .place);
           others = λ j l other.
               let inside : j < entries p b = omega (arith, many) in
@@ -113,8 +107,7 @@ module _ (p m : List ℕ) (h b k c : ℕ) (ready : SettleReady p m h b k c) wher
     settled r n mended =
         record {
           shape = mended .shape ∙ ap (mend (least oneToAByte h) (most oneToAByte h)) same-shape;
-          block =
-              record { inside = mended .block .inside; form = mended .block .form; enough = omega (arith, mended .block .enough, many); fits = mended .block .fits };
+          block = block-least (omega (arith, mended .block .enough, many)) (mended .block);
           below = mended .below;
           blocks = λ x. mended .blocks x ∙ ap (λ (bs : List ℕ). count x bs + isFree m x) same-blocks;
           only =

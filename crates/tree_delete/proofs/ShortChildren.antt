@@ -27,6 +27,7 @@ use Rattle.pool_blocks.proofs.Branches.{entry-link, entry-below, entry-count}
 use Rattle.pool_blocks.specs.Contents.{linkIn, entryBytes, entryList}
 use Rattle.pool_entries.specs.Summaries.{Is}
 use Rattle.pool_holders.proofs.Frees.{freed-none}
+use Rattle.tree_splits.proofs.SoundBlocks.{block-least}
 use Rattle.tree_splits.specs.Entries.{TrueEntry, SoundChild}
 use Rattle.tree_delete.specs.Mends.{SoundPart, AllGood, PairReady, pairShape, PairMended, ShortReady, Mended}
 use Rattle.tree_delete.proofs.PairMends.{split-two}
@@ -37,7 +38,7 @@ node-length p fewest zero x block = length-leaf p x fewest block
 node-length p fewest (suc h) x block = length-shape p h x
 
 pub fewer : (p : List ℕ) (many few h x : ℕ) → few ≤ many → SoundPart p many h x → SoundPart p few h x
-fewer p many few h x low sound = (record { inside = sound .0 .inside; form = sound .0 .form; enough = omega (arith, sound .0 .enough); fits = sound .0 .fits }, sound .1)
+fewer p many few h x low sound = (block-least (omega (arith, sound .0 .enough)) (sound .0), sound .1)
 
 -- every child of a branch of which one may be short
 pub each-part : (p : List ℕ) (h b k : ℕ) → SoundPart p (least oneToAByte h - 1) h (link p b k)
@@ -118,7 +119,7 @@ module _ (p m : List ℕ) (h b k : ℕ) (ready : ShortReady p m h b k) where
       let each : (j : ℕ) → j < entries p b → SoundChild p h (link p b j) × Tells p h b j
       = λ j inside.
       ⊎-elim
-      (λ w. rw (w .0) ((record { inside = ready .child .0 .inside; form = ready .child .0 .form; enough = enough; fits = ready .child .0 .fits }, ready .child .1), ready .told))
+      (λ w. rw (w .0) ((block-least enough (ready .child .0), ready .child .1), ready .told))
       (λ w. ready .others j inside (w .0)) (isMark-cases k j) in
       record {
         shape =
@@ -126,7 +127,7 @@ module _ (p m : List ℕ) (h b k : ℕ) (ready : ShortReady p m h b k) where
             (all-mapped (λ z. least oneToAByte h ≤ length z) (shapeAt p h) (from (link p b) 0 (entries p b))
             (all-from (λ x. least oneToAByte h ≤ length (shapeAt p h x)) (link p b) 0 (entries p b)
             (λ j l u. let good = each j (omega arith) .0 .0 in omega (arith, node-length p _ h (link p b j) good, good .enough)))));
-        block = record { inside = ready .block .inside; form = ready .block .form; enough = omega arith; fits = ready .block .fits };
+        block = block-least (omega arith) (ready .block);
         below = λ j inside. (each j inside .0 .0, each j inside .0 .1, each j inside .1);
         blocks = λ x. refl;
         only = only-none _ p;

@@ -1,4 +1,5 @@
-// Two neighbours mended in their parent: joined if their entries fit one node, else shared out. The level is theirs, one below the parent's.
+// Two neighbours mended in their parent: joined if their entries fit one node, else shared out. The level is theirs, one below the
+// parent's.
 ghost use Prim.Native.Nat.{_+_, _≤_, _<_};
 ghost use Rattle.shape.specs.Sizes.{oneToAByte, most};
 ghost use Rattle.pool.specs.Blocks.{entries};

@@ -13,7 +13,8 @@ pub struct Removed {
     pub root: usize,
 }
 
-// Takes place i out of the tree whose root is the block b of a level. A root that is left with one child is free, and the child is the root.
+// Takes place i out of the tree whose root is the block b of a level. A root that is left with one child is free, and the child is the
+// root.
 pub fn delete_in_tree(pool: &mut [u8], level: usize, b: usize, i: usize, map: &mut [u8]) -> Removed
     requires { ⌜ DeleteReady (now pool) (now map) level b i ⌝ }
     ensures { λ r. ⌜ TreeDeleted level b i r (now (pool .entry)) (now (pool .exit)) (now (map .entry)) (now (map .exit)) ⌝ }

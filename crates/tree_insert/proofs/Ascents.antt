@@ -22,6 +22,7 @@ use Rattle.shape.specs.Level.{chop}
 use Rattle.shape.specs.Nested.{Node, joined}
 use Rattle.shape.specs.Sizes.{oneToAByte}
 use Rattle.shape.specs.Trees.{insertNode}
+use Rattle.pool.proofs.Children.{shape-around}
 use Rattle.pool.proofs.Changed.{only-then, only-wider}
 use Rattle.pool.proofs.Lists.{joined-map}
 use Rattle.pool.proofs.SoundTrees.{sound-filled}
@@ -41,7 +42,8 @@ use Rattle.tree_splits.proofs.Pieces.{all-both, all-unmapped, map-append, map-t
 use Rattle.tree_splits.proofs.SameEntries.{same-entry-list}
 use Rattle.pool_entries.specs.Seats.{Seated}
 use Rattle.pool_entries.specs.declared.Seat.{Seat}
-use Rattle.tree_insert.proofs.Descents.{child-takes, before-total, around, child-splits, child-ready, child-path}
+use Rattle.tree_splits.proofs.ChosenChildren.{child-takes, before-total, child-path}
+use Rattle.tree_insert.proofs.Descents.{child-splits, child-ready}
 use Rattle.tree_insert.proofs.Regroups.{regrouped-shapes, regrouped-blocks, regrouped-sound}
 use Rattle.tree_insert.proofs.Siblings.{length-roots, insert-same, insert-sound, branch-same}
 
@@ -164,9 +166,9 @@ module _ (p m : List ℕ) (h b i c holder : ℕ) (ready : InsertReady p m (suc h
       let front : List (Node h) = take (s .k) (shapeAt p (suc h) b) in
       let back : List (Node h) = drop (suc (s .k)) (shapeAt p (suc h) b) in
       let x : Node h = shapeAt p h (link p b (s .k)) in
-      ap (insertNode oneToAByte c (suc h) i) (around p m h b i c holder ready s seated)
-      ∙ insertNode-takes oneToAByte h i front x back (child-takes p m h b i c holder ready s seated) c
-      ∙ ap (λ (k : ℕ). chop mostBranch (front ++ (insertNode oneToAByte c h (i - k) x ++ back))) (before-total p m h b i c holder ready s seated)
+      ap (insertNode oneToAByte c (suc h) i) (shape-around p h b (s .k) (seated .inside))
+      ∙ insertNode-takes oneToAByte h i front x back (child-takes p h b (ready .below) i s seated) c
+      ∙ ap (λ (k : ℕ). chop mostBranch (front ++ (insertNode oneToAByte c h (i - k) x ++ back))) (before-total p h b (ready .below) i s seated)
       ∙ ap (chop mostBranch) (sym all-shapes)
 
   all-length : length all ≡ entries p b + cond (g .split) 1 0
@@ -214,10 +216,10 @@ module _ (p m : List ℕ) (h b i c holder : ℕ) (ready : InsertReady p m (suc h
             only-then
             (only-wider _
             (λ x (change : 1 ≤ count x (pathAt p h (i - s .before) (link p b (s .k))) + (isFree m x - isFree l x)).
-            omega (arith, ap (count x) (child-path p m h b i c holder ready s seated), entered-falls holder l n (up .regrouped .entered) x)) (ins .only))
+            omega (arith, ap (count x) (child-path p h b (ready .below) i s seated), entered-falls holder l n (up .regrouped .entered) x)) (ins .only))
             (only-wider _
             (λ x (change : 1 ≤ isMark x b + (isFree l x - isFree n x)).
-            omega (arith, ap (count x) (child-path p m h b i c holder ready s seated), entered-falls holder m l (ins .entered) x)) (up .regrouped .only));
+            omega (arith, ap (count x) (child-path p h b (ready .below) i s seated), entered-falls holder m l (ins .entered) x)) (up .regrouped .only));
         entered = entered-then holder m l n (ins .entered) (up .regrouped .entered);
         took = omega (arith, ins .took, up .regrouped .took, child-splits p m h b i c holder ready s seated, split-above);
       }

@@ -2,7 +2,6 @@ pub mod Descents
 pub mod Siblings
 pub mod Regroups
 pub mod Ascents
-pub mod Levels
 pub mod Outcomes
 pub mod WholeTrees
 pub mod WaysDown

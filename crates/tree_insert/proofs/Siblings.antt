@@ -24,7 +24,7 @@ use Rattle.shape.specs.Fill.{rootLeast}
 use Rattle.shape.specs.Nested.{total, flat}
 use Rattle.shape.specs.Sizes.{oneToAByte, least}
 use Rattle.shape.specs.Trees.{insertNode}
-use Rattle.pool.proofs.Children.{length-shape}
+use Rattle.pool.proofs.Children.{length-shape, shape-around}
 use Rattle.pool.proofs.Distincts.{all-standing}
 use Rattle.pool.proofs.Frames.{same-byte, same-entries, same-link, same-marksBelow, same-countBelow}
 use Rattle.pool.proofs.Lists.{total-map}
@@ -41,10 +41,12 @@ use Rattle.tree_splits.specs.Entries.{SoundChild}
 use Rattle.tree_splits.specs.Grafts.{TakeUpReady}
 use Rattle.tree_splits.specs.Inserts.{roots, leastAfter, InsertReady, Inserted}
 use Rattle.tree_splits.specs.declared.Grown.{Grown}
+use Rattle.tree_splits.proofs.SoundBlocks.{block-least}
 use Rattle.tree_splits.proofs.Pieces.{room-step}
 use Rattle.pool_entries.specs.Seats.{Seated}
 use Rattle.pool_entries.specs.declared.Seat.{Seat}
-use Rattle.tree_insert.proofs.Descents.{child-takes, before-total, child-short, around, child-splits, child-blocks, child-ready}
+use Rattle.tree_splits.proofs.ChosenChildren.{child-blocks, child-takes, before-total, child-short}
+use Rattle.tree_insert.proofs.Descents.{child-splits, child-ready}
 
 -- how many roots there are
 pub length-roots : (g : Grown) (b : ℕ) → length (roots g b) ≡ suc (cond (g .split) 1 0)
@@ -97,7 +99,7 @@ module _ (h b i c holder : ℕ) (g : Grown) (p q m n : List ℕ) (ready : Insert
   insert-sound low =
       all-map (λ x. SoundBlock q (leastAfter g h (entries p b)) h x × SoundBelow q mostAlphabet h x) (SoundChild q h)
       (λ x s.
-      (record { inside = s .0 .inside; form = s .0 .form; enough = omega (arith, s .0 .enough, least-after g h (entries p b) low); fits = s .0 .fits }, s .1))
+      (block-least (omega (arith, s .0 .enough, least-after g h (entries p b) low)) (s .0), s .1))
       (roots g b) (ins .sound)
 
 module _ (p m : List ℕ) (h b i c holder : ℕ) (ready : InsertReady p m (suc h) b i c holder) (s : Seat) (seated : Seated (marksBelow p b) (entries p b) i s) where
@@ -109,12 +111,12 @@ module _ (p m : List ℕ) (h b i c holder : ℕ) (ready : InsertReady p m (suc h
     pub branch-same : SameBlock b p q
     branch-same =
         insert-same h (link p b (s .k)) (i - s .before) c holder g p q m n below ins b
-        (omega (arith, ready .agrees b, child-blocks p m h b i c holder ready s seated b, isMark-same b b refl))
-        (omega (arith, ready .agrees b, child-blocks p m h b i c holder ready s seated b, isMark-same b b refl))
+        (omega (arith, ready .agrees b, child-blocks p h b (s .k) (seated .inside) b, isMark-same b b refl))
+        (omega (arith, ready .agrees b, child-blocks p h b (s .k) (seated .inside) b, isMark-same b b refl))
 
     pub branch-held : isFree n b ≡ 0
     branch-held =
-        omega (arith, entered-falls holder m n (ins .entered) b, ready .agrees b, child-blocks p m h b i c holder ready s seated b, isMark-same b b refl)
+        omega (arith, entered-falls holder m n (ins .entered) b, ready .agrees b, child-blocks p h b (s .k) (seated .inside) b, isMark-same b b refl)
 
     many : entries q b ≡ entries p b
     many = same-entries p q b branch-same
@@ -125,10 +127,10 @@ module _ (p m : List ℕ) (h b i c holder : ℕ) (ready : InsertReady p m (suc h
     pub divides-child : divides oneToAByte (suc h) i (shapeAt p (suc h) b)
         ≡ (divides oneToAByte h (i - s .before) (shapeAt p h (link p b (s .k))) && leb mostBranch (entries p b))
     divides-child =
-        ap (divides oneToAByte (suc h) i) (around p m h b i c holder ready s seated)
-        ∙ divides-takes oneToAByte h i _ (shapeAt p h (link p b (s .k))) _ (child-takes p m h b i c holder ready s seated)
-        ∙ ap₂ (λ (j k : ℕ). divides oneToAByte h (i - j) (shapeAt p h (link p b (s .k))) && leb mostBranch k) (before-total p m h b i c holder ready s seated)
-        (ap length (sym (around p m h b i c holder ready s seated)) ∙ length-shape p h b)
+        ap (divides oneToAByte (suc h) i) (shape-around p h b (s .k) (seated .inside))
+        ∙ divides-takes oneToAByte h i _ (shapeAt p h (link p b (s .k))) _ (child-takes p h b (ready .below) i s seated)
+        ∙ ap₂ (λ (j k : ℕ). divides oneToAByte h (i - j) (shapeAt p h (link p b (s .k))) && leb mostBranch k) (before-total p h b (ready .below) i s seated)
+        (ap length (sym (shape-around p h b (s .k) (seated .inside))) ∙ length-shape p h b)
 
     pub take-up-ready : TakeUpReady q n h b (s .k) (link p b (s .k)) c holder g
     take-up-ready =
@@ -152,7 +154,7 @@ module _ (p m : List ℕ) (h b i c holder : ℕ) (ready : InsertReady p m (suc h
               insert-total h (link p b (s .k)) (i - s .before) c holder g p q m n below ins (count d) (count-additive d)
               ∙ count-insert d c (i - s .before) (flat h (shapeAt p h (link p b (s .k))))
               ∙ omega (arith, told .counts d inside, same-countBelow p q b branch-same (s .k) d place-low inside);
-          short = omega (arith, same-marksBelow p q b branch-same (s .k) place-low, told .marks, child-short p m h b i c holder ready s seated, ready .short);
+          short = omega (arith, same-marksBelow p q b branch-same (s .k) place-low, told .marks, child-short p h b (ready .below) i s seated, ready .short);
           room =
               let one : cond {A = ℕ} (divides oneToAByte (suc h) i (shapeAt p (suc h) b)) 1 0 ≤ freeIn n =
               omega (arith, ready .room, child-splits p m h b i c holder ready s seated, ins .took) in

@@ -8,18 +8,22 @@ use lib.ListN.{getD, set, length-set}
 use lib.Seq.{getD-set-same, getD-set-other}
 use Rattle.geometry.specs.Layout.{leastBranch, mostBranch, mostHeight}
 use Rattle.shape.proofs.Choice.{by-leb}
+use Rattle.shape.specs.Fill.{rootLeast}
 use Rattle.pool.specs.Blocks.{entries, link, marksBelow}
 use Rattle.pool.specs.Bytes.{shares}
+use Rattle.pool.specs.Sound.{SoundBlock}
+use Rattle.pool_entries.proofs.Levels.{at-branch}
+use Rattle.pool_entries.proofs.Seats.{seated-low}
 use Rattle.pool_entries.specs.Seats.{Seated}
 use Rattle.pool_entries.specs.Summaries.{Is}
 use Rattle.pool_entries.specs.declared.Seat.{Seat}
+use Rattle.tree_splits.proofs.SoundBlocks.{branch-most}
 use Rattle.tree_splits.specs.Grafts.{TakeUpReady, TakenUp}
 use Rattle.tree_splits.specs.Inserts.{InsertReady, Inserted}
 use Rattle.tree_splits.specs.declared.Grown.{Grown}
 use Rattle.tree_insert.specs.Ways.{Insertable, Down, LevelRoom, WayTo}
 use Rattle.tree_insert.proofs.Ascents.{inserted-above}
 use Rattle.tree_insert.proofs.Descents.{child-ready}
-use Rattle.tree_insert.proofs.Levels.{choice-ready, link-ready, place-past}
 use Rattle.tree_insert.proofs.Siblings.{take-up-ready}
 
 -- one level, over plain variables
@@ -187,18 +191,22 @@ found-all p h b i l block place blocks places children found end =
 
 -- what the loop's calls need
 module _ (p : List ℕ) (h b i l block place : ℕ) (blocks places children : List ℕ) (found : WayFound p h b i l block place blocks places children) (more : 0 < l) where
-  pub found-choice : (block < shares p) × (leastBranch ≤ entries p block) × (entries p block ≤ mostBranch)
-  found-choice = choice-ready p _ l block place _ _ (found .some .ready) (λ e. omega arith)
-
   pub found-inside : block < shares p
-  found-inside = found-choice .0
+  found-inside = found .some .ready .block .inside
 
-  module _ (s : Seat) (seated : Seated (marksBelow p block) (entries p block) place s) where
-    pub found-low : s .k < mostBranch
-    found-low = link-ready p _ l block place _ _ (found .some .ready) (λ e. omega arith) s seated .1
+  found-most : entries p block ≤ mostBranch
+  found-most = branch-most p _ l block (found .some .ready .block) (λ e. omega arith)
 
-    pub found-past : s .before ≤ place
-    found-past = place-past p _ l block place _ _ (found .some .ready) (λ e. omega arith) s seated
+  found-least : leastBranch ≤ entries p block
+  found-least =
+      at-branch (λ h d. SoundBlock p (rootLeast h) h block → leastBranch ≤ entries p block) l (λ e. omega arith) (λ h block. block .enough)
+      (found .some .ready .block)
+
+  pub found-choice : (block < shares p) × (leastBranch ≤ entries p block) × (entries p block ≤ mostBranch)
+  found-choice = (found-inside, found-least, found-most)
+
+  pub found-low : (s : Seat) → Seated (marksBelow p block) (entries p block) place s → s .k < mostBranch
+  found-low s seated = seated-low (marksBelow p block) (entries p block) place s seated found-most
 
 -- what find_way needs of an insert
 pub insertable : (p m : List ℕ) (h b i c holder : ℕ) → InsertReady p m h b i c holder → Insertable p h b i

@@ -25,6 +25,7 @@ use Rattle.pool_holders.proofs.Takes.{entered-then, entered-falls}
 use Rattle.tree_splits.specs.Inserts.{Inserted}
 use Rattle.tree_splits.specs.Roots.{RootReady, RootGrown}
 use Rattle.tree_splits.specs.declared.Grown.{Grown}
+use Rattle.tree_splits.proofs.SoundBlocks.{block-least}
 use Rattle.tree_splits.proofs.TakeUps.{roots-one, roots-two}
 use Rattle.tree_insert.specs.Trees.{TreeReady, TreeInserted}
 use Rattle.tree_insert.proofs.Outcomes.{agrees-after}
@@ -41,13 +42,7 @@ module _ (p m : List ℕ) (h b i c holder : ℕ) (ready : TreeReady p m h b i c 
     tree-kept =
         record {
           tree = ap (grown h) (ap (map (shapeAt q h)) (sym (roots-one g b whole)) ∙ ins .shapes);
-          block =
-              record {
-                inside = kept-sound .0 .inside;
-                form = kept-sound .0 .form;
-                enough = omega (arith, kept-sound .0 .enough, ready .node .block .enough);
-                fits = kept-sound .0 .fits;
-              };
+          block = block-least (omega (arith, kept-sound .0 .enough, ready .node .block .enough)) (kept-sound .0);
           below = kept-sound .1;
           blocks = λ x.
               omega (

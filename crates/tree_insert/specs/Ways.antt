@@ -56,11 +56,13 @@ pub record Climber (h c holder : ℕ) (blocks children : List ℕ) (j : ℕ) (g 
   pub climbing : Climbing pool map h block place c holder blocks children j g q l
 
 -- each insert that has come up to level j has now come up to level j'
-pub record Climbed (h c holder : ℕ) (blocks children : List ℕ) (j : ℕ) (g : Grown) (q l : List ℕ) (j' : ℕ) (g' : Grown) (q' l' : List ℕ) : Type 0 where
+pub record Climbed (h c holder : ℕ) (blocks children : List ℕ) (j : ℕ) (g : Grown) (q l : List ℕ)
+    (j' : ℕ) (g' : Grown) (q' l' : List ℕ) : Type 0 where
   pub long : length q' ≡ length q
   pub longMap : length l' ≡ length l
   pub some : Climber h c holder blocks children j' g' q' l'
-  pub each : (p m : List ℕ) (b i : ℕ) → Climbing p m h b i c holder blocks children j g q l → Climbing p m h b i c holder blocks children j' g' q' l'
+  pub each : (p m : List ℕ) (b i : ℕ) → Climbing p m h b i c holder blocks children j g q l
+      → Climbing p m h b i c holder blocks children j' g' q' l'
 
 -- some insert has come up to level j, and split nothing there
 pub record Counter (h c : ℕ) (blocks children : List ℕ) (j : ℕ) (q : List ℕ) : Type 0 where

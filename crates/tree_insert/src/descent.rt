@@ -1,5 +1,5 @@
-// The way down to the leaf that takes a place. It is kept, so that an edit can go back up it: a call for each level would cost more than the
-// work there.
+// The way down to the leaf that takes a place. It is kept, so that an edit can go back up it: a call for each level would cost more than
+// the work there.
 ghost use Prim.Native.Nat.{_≤_};
 ghost use Rattle.geometry.specs.Layout.{mostHeight};
 ghost use Rattle.tree_insert.specs.Ways.{Insertable, WayTo, LevelRoom};

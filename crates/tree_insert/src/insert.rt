@@ -44,7 +44,8 @@ fn go_up(
 ) -> Grown
     requires high { ⌜ level ≤ mostHeight ⌝ }
     requires start { ⌜ Climber level c holder (now blocks) (now children) 0 leaf (now pool) (now map) ⌝ }
-    ensures { λ r. ⌜ Climbed level c holder (now (blocks .entry)) (now (children .entry)) 0 leaf (now (pool .entry)) (now (map .entry)) level r (now (pool .exit)) (now (map .exit)) ⌝ }
+    ensures { λ r. ⌜ Climbed level c holder (now (blocks .entry)) (now (children .entry)) 0 leaf (now (pool .entry)) (now (map .entry))
+        level r (now (pool .exit)) (now (map .exit)) ⌝ }
 {
     let mut grown = leaf;
     let mut at = 0;

@@ -3,6 +3,5 @@ mod descent;
 mod insert;
 mod tree;
 
-pub use insert::insert_in;
 pub use tree::Rooted;
 pub use tree::insert_in_tree;

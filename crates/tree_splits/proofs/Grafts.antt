@@ -14,9 +14,9 @@ use Rattle.pool.proofs.Changed.{only-wider}
 use Rattle.pool.specs.Blocks.{formOf, entries}
 use Rattle.pool.specs.Bytes.{shares}
 use Rattle.pool.specs.Changes.{Only}
-use Rattle.pool.specs.Words.{wordLimit}
 use Rattle.pool_blocks.proofs.Branches.{entries-length}
 use Rattle.pool_blocks.specs.Contents.{entryList, BranchAt}
+use Rattle.pool_entries.specs.Summaries.{Is}
 use Rattle.pool_entries.specs.declared.Summary.{Summary}
 use Rattle.pool_holders.specs.Maps.{isFree, BlockTaken}
 use Rattle.pool_holders.proofs.Takes.{taken-one, taken-free, taken-blocks, taken-entered, entered-none}
@@ -41,17 +41,17 @@ kept-regrouped b holder all p q m branch only form list fits =
       took = omega arith;
     }
 
-module _ (p m : List ℕ) (b k child holder : ℕ) (summary : Summary) (ready : GraftReady p m b k child holder) where
-  pub graft-kept : (q : List ℕ) → entries p b < mostBranch → EntryPut b k child summary p q
+module _ (p m : List ℕ) (b k child holder : ℕ) (ready : GraftReady p m b k child holder) where
+  pub graft-kept : (many : ℕ) → Is (entries p b) many → many < mostBranch → (summary : Summary) (q : List ℕ) → EntryPut b k child summary p q
       → Grafted b k child holder summary (record { split = false; new = 0 }) p q m m
-  graft-kept q room put =
+  graft-kept many size room summary q put =
       let place : k ≤ length (entryList p b) = omega (arith, ready .place, entries-length p b) in
       record {
         entry = put .entry;
         holds = put .holds;
         regrouped =
             kept-regrouped b holder (putAt k (put .entry) (entryList p b)) p q m (ready .branch) (put .only) (put .form ∙ ready .form) (put .list)
-            (omega (arith, length-putAt k (put .entry) (entryList p b) place, entries-length p b));
+            (omega (arith, length-putAt k (put .entry) (entryList p b) place, entries-length p b, size .is));
       }
 
   module _ (new : ℕ) (n : List ℕ) (taken : BlockTaken holder new m n) where
@@ -61,15 +61,10 @@ module _ (p m : List ℕ) (b k child holder : ℕ) (summary : Summary) (ready : 
     pub new-other : b ≡ new → ⊥
     new-other e = omega (arith, ready .held, taken-free holder new m n (ready .named) taken, ap (isFree m) e)
 
-    pub split-ready : mostBranch ≤ entries p b
-        → ((b < shares p) × (entries p b ≡ mostBranch)) × (((new < shares p) × (b ≡ new → ⊥)) × ((k ≤ mostBranch) × (child < wordLimit)))
-    split-ready full =
-        ((ready .branch .inside, omega (arith, ready .branch .fits)), ((new-inside, new-other), (omega (arith, ready .place, ready .branch .fits), ready .small)))
-
-    pub graft-parted : (q : List ℕ) → mostBranch ≤ entries p b → BranchSplit b new k child summary p q
+    pub graft-parted : (many : ℕ) → Is (entries p b) many → mostBranch ≤ many → (summary : Summary) (q : List ℕ) → BranchSplit b new k child summary p q
         → Grafted b k child holder summary (record { split = true; new = new }) p q m n
     unfolding count
-    graft-parted q full split =
+    graft-parted many size full summary q split =
         let named : 0 < holder = ready .named in
         let place : k ≤ length (entryList p b) = omega (arith, ready .place, entries-length p b) in
         record {
@@ -80,7 +75,7 @@ module _ (p m : List ℕ) (b k child holder : ℕ) (summary : Summary) (ready : 
                 lists =
                     split .lists
                     ∙ sym (chop-halves mostBranch (putAt k (split .entry) (entryList p b))
-                    (omega (arith, length-putAt k (split .entry) (entryList p b) place, entries-length p b)));
+                    (omega (arith, length-putAt k (split .entry) (entryList p b) place, entries-length p b, size .is)));
                 inside = (omega (arith, ready .branch .inside, split .only .long), (omega (arith, new-inside, split .only .long), tt));
                 forms = (split .form ∙ ready .form, (split .newForm, tt));
                 only =

@@ -25,11 +25,11 @@ use Rattle.pool.proofs.Leaves.{length-leaf}
 use Rattle.pool.specs.Blocks.{entries, leafMarks}
 use Rattle.pool.specs.Bytes.{shares}
 use Rattle.pool.specs.Trees.{pathAt}
-use Rattle.pool_blocks.specs.Contents.{LeafAt}
 use Rattle.pool_blocks.specs.Leaves.{MarkInserted}
 use Rattle.sequence.proofs.Items.{all-left, all-right}
 use Rattle.pool_holders.specs.Maps.{freeIn, BlockTaken}
 use Rattle.pool_holders.proofs.Takes.{taken-one, taken-free, taken-blocks, taken-entered, entered-none}
+use Rattle.tree_splits.proofs.SoundBlocks.{block-written}
 use Rattle.tree_splits.specs.Inserts.{InsertReady, Inserted, LeafSplit}
 
 -- the path of a leaf is its block
@@ -42,9 +42,6 @@ both-below : (σ : ℕ) (xs ys : List ℕ) → AllBelow σ (joined (λ x. x) (xs
 both-below σ xs ys all = (all-left _ xs _ all, all-left _ ys [] (all-right _ xs _ all))
 
 module _ (b i c holder : ℕ) (p m : List ℕ) (ready : InsertReady p m 0 b i c holder) where
-  pub ready-leaf : LeafAt p b
-  ready-leaf = record { inside = ready .block .inside; fits = ready .block .fits }
-
   pub ready-size : length (leafMarks p b) ≡ entries p b
   ready-size = length-leaf p b 0 (ready .block)
 
@@ -57,25 +54,29 @@ module _ (b i c holder : ℕ) (p m : List ℕ) (ready : InsertReady p m 0 b i c 
   unfolding splits divides
   leaf-whole room = cond-lt mostLeaf (length (leafMarks p b)) 1 0 room
 
-  pub full-room : mostLeaf ≤ length (leafMarks p b) → 1 ≤ freeIn m
-  full-room full = omega (arith, ready .room, leaf-splits full)
+  -- what its split needs, by the size that was read
+  module _ (many : ℕ) (size : many ≡ length (leafMarks p b)) (full : mostLeaf ≤ many) where
+    pub full-room : 1 ≤ freeIn m
+    full-room = omega (arith, ready .room, leaf-splits (omega arith))
+
+    pub full-size : length (leafMarks p b) ≡ mostLeaf
+    full-size = omega (arith, ready-size, ready .block .fits)
+
+  pub place-last : i ≤ mostLeaf + 1
+  place-last = omega (arith, ready .last, ready-size, ready .block .fits)
 
   -- no split: one block is written, and the map is as before
-  pub leaf-kept : (q : List ℕ) → length (leafMarks p b) < mostLeaf → MarkInserted b i c p q → Inserted 0 b i c holder (record { split = false; new = 0 }) p q m m
+  pub leaf-kept : (many : ℕ) → many ≡ length (leafMarks p b) → many < mostLeaf → (q : List ℕ) → MarkInserted b i c p q
+      → Inserted 0 b i c holder (record { split = false; new = 0 }) p q m m
   unfolding insertNode
-  leaf-kept q room put =
+  leaf-kept many size room q put =
       record {
         shapes =
             ap (λ (x : List ℕ). x ∷ []) (put .marks)
             ∙ sym (chop-fits (most oneToAByte zero) (insert c i (leafMarks p b)) (omega (arith, length-insert c i (leafMarks p b))));
         sound = (
           (
-            record {
-              inside = omega (arith, ready .block .inside, put .only .long);
-              form = put .form ∙ ready .block .form;
-              enough = omega (arith, put .many);
-              fits = omega (arith, put .many, ready-size);
-            },
+            block-written (ready .block) (put .only .long) (put .form) (put .many) (omega arith) (omega (arith, ready-size)),
             rw (put .marks) (allBelow-insert mostAlphabet c i (leafMarks p b) (ready .symbol) (ready .below)),
           ),
           tt,
@@ -83,11 +84,10 @@ module _ (b i c holder : ℕ) (p m : List ℕ) (ready : InsertReady p m 0 b i c 
         blocks = λ x. refl;
         only = only-wider _ (λ x e. rw e (omega (arith, leaf-path p i b))) (put .only);
         entered = entered-none holder m;
-        took = omega (arith, leaf-whole room);
+        took = omega (arith, leaf-whole (omega arith));
       }
 
   module _ (new : ℕ) (n : List ℕ) (taken : BlockTaken holder new m n) where
-    -- what a split needs
     pub new-inside : new < shares p
     new-inside = omega (arith, taken .inside, ready .map .blocks)
 
@@ -95,16 +95,11 @@ module _ (b i c holder : ℕ) (p m : List ℕ) (ready : InsertReady p m 0 b i c 
     unfolding count
     new-other e = omega (arith, ready .agrees new, taken-free holder new m n (ready .named) taken, isMark-same new b e)
 
-    pub split-ready : mostLeaf ≤ length (leafMarks p b)
-        → (LeafAt p b × (length (leafMarks p b) ≡ mostLeaf)) × (((new < shares p) × (b ≡ new → ⊥)) × ((1 ≤ i) × (i ≤ mostLeaf + 1)))
-    split-ready full =
-        let exact : length (leafMarks p b) ≡ mostLeaf = omega (arith, ready-size, ready .block .fits) in
-        ((ready-leaf, exact), ((new-inside, new-other), (ready .first, omega (arith, ready .last))))
-
     -- split: the leaf and the block taken are written
-    pub leaf-parted : (q : List ℕ) → mostLeaf ≤ length (leafMarks p b) → LeafSplit b new i c p q → Inserted 0 b i c holder (record { split = true; new = new }) p q m n
+    pub leaf-parted : (many : ℕ) → many ≡ length (leafMarks p b) → mostLeaf ≤ many → (q : List ℕ) → LeafSplit b new i c p q
+        → Inserted 0 b i c holder (record { split = true; new = new }) p q m n
     unfolding count
-    leaf-parted q full split =
+    leaf-parted many size full q split =
         let named : 0 < holder = ready .named in
         let all : AllBelow mostAlphabet (joined (λ x. x) (leafMarks q b ∷ leafMarks q new ∷ [])) =
         subst (AllBelow mostAlphabet) (sym (ap (joined (λ x. x)) (split .marks) ∙ insertNode-marks oneToAByte c zero i (leafMarks p b)))
@@ -114,12 +109,7 @@ module _ (b i c holder : ℕ) (p m : List ℕ) (ready : InsertReady p m 0 b i c 
           shapes = split .marks;
           sound = (
             (
-              record {
-                inside = omega (arith, ready .block .inside, split .only .long);
-                form = split .form ∙ ready .block .form;
-                enough = omega (arith, split .many);
-                fits = omega (arith, split .many);
-              },
+              block-written (ready .block) (split .only .long) (split .form) (split .many) (omega arith) (omega arith),
               halves .0,
             ),
             (
@@ -143,5 +133,5 @@ module _ (b i c holder : ℕ) (p m : List ℕ) (ready : InsertReady p m 0 b i c 
               (λ e. rw e (omega (arith, taken-free holder new m n named taken, taken-blocks holder new m n named taken new, isMark-same new new refl))) w)
               (split .only);
           entered = taken-entered holder new m n named taken;
-          took = omega (arith, taken-one holder new m n named taken, leaf-splits full);
+          took = omega (arith, taken-one holder new m n named taken, leaf-splits (omega arith));
         }

@@ -20,24 +20,33 @@ use Rattle.pool_blocks.specs.Contents.{LeafAt}
 use Rattle.pool_blocks.specs.Leaves.{MarkInserted, LeafCut}
 use Rattle.tree_splits.specs.Inserts.{LeafSplit}
 
-module _ (b new i c : ℕ) (p q : List ℕ) (leaf : LeafAt p b) (full : length (leafMarks p b) ≡ mostLeaf) (inside : new < shares p) where
+module _ (b new : ℕ) (p q : List ℕ) (leaf : LeafAt p b) (full : length (leafMarks p b) ≡ mostLeaf) (inside : new < shares p) where
   -- cut one short of the half, which leaves room on the left
-  pub low-ready : LeafCut b new (leastLeaf - 1) p q → 1 ≤ i → i ≤ leastLeaf
-      → LeafAt q b × (1 ≤ i) × (i ≤ length (leafMarks q b) + 1) × (length (leafMarks q b) < mostLeaf)
-  low-ready cut one low =
-      let left : LeafAt q b = record { inside = omega (arith, leaf .inside, cut .only .long); fits = omega (arith, cut .many) } in
-      let long : length (leafMarks q b) ≡ leastLeaf - 1 = leaf-size q b left ∙ cut .many in
-      (left, one, omega arith, omega arith)
+  module _ (cut : LeafCut b new (leastLeaf - 1) p q) where
+    pub left-leaf : LeafAt q b
+    left-leaf = record { inside = omega (arith, leaf .inside, cut .only .long); fits = omega (arith, cut .many) }
+
+    pub left-room : length (leafMarks q b) < mostLeaf
+    left-room = omega (arith, leaf-size q b left-leaf, cut .many)
+
+    pub left-place : (i : ℕ) → i ≤ leastLeaf → i ≤ length (leafMarks q b) + 1
+    left-place i low = omega (arith, leaf-size q b left-leaf, cut .many)
 
   -- cut at the half, which leaves room on the right
-  pub high-ready : LeafCut b new leastLeaf p q → leastLeaf < i → i ≤ mostLeaf + 1
-      → LeafAt q new × (1 ≤ i - leastLeaf) × (i - leastLeaf ≤ length (leafMarks q new) + 1) × (length (leafMarks q new) < mostLeaf)
-  high-ready cut high last =
-      let many : entries q new ≡ leastLeaf - 1 = omega (arith, cut .newMany, leaf-size p b leaf) in
-      let right : LeafAt q new = record { inside = omega (arith, inside, cut .only .long); fits = omega arith } in
-      let long : length (leafMarks q new) ≡ leastLeaf - 1 = leaf-size q new right ∙ many in
-      (right, omega arith, omega arith, omega arith)
+  module _ (cut : LeafCut b new leastLeaf p q) where
+    right-many : entries q new ≡ leastLeaf - 1
+    right-many = omega (arith, cut .newMany, leaf-size p b leaf)
 
+    pub right-leaf : LeafAt q new
+    right-leaf = record { inside = omega (arith, inside, cut .only .long); fits = omega (arith, right-many) }
+
+    pub right-room : length (leafMarks q new) < mostLeaf
+    right-room = omega (arith, leaf-size q new right-leaf, right-many)
+
+    pub right-place : (i : ℕ) → i ≤ mostLeaf + 1 → i - leastLeaf ≤ length (leafMarks q new) + 1
+    right-place i last = omega (arith, leaf-size q new right-leaf, right-many)
+
+module _ (b new i c : ℕ) (p q : List ℕ) (leaf : LeafAt p b) (full : length (leafMarks p b) ≡ mostLeaf) (inside : new < shares p) where
   module _ (other : b ≡ new → ⊥) (r : List ℕ) where
     pub split-low : LeafCut b new (leastLeaf - 1) p q → 1 ≤ i → i ≤ leastLeaf → MarkInserted b i c q r → LeafSplit b new i c p r
     split-low cut one low put =

@@ -1,3 +1,5 @@
+pub mod SoundBlocks
+pub mod ChosenChildren
 pub mod LeafSplits
 pub mod LeafInserts
 pub mod SameEntries

@@ -8,7 +8,6 @@ use Rattle.sequence.proofs.Counts.{isMark-same}
 use Rattle.sequence.specs.Definition1.{count}
 use Rattle.sequence.specs.Items.{All}
 use Rattle.shape.specs.Nested.{joined}
-use Rattle.shape.specs.Sizes.{oneToAByte, most}
 use Rattle.pool.proofs.Changed.{only-then, only-wider}
 use Rattle.pool.proofs.Lists.{joined-map}
 use Rattle.pool.specs.Blocks.{entries}
@@ -26,7 +25,7 @@ use Rattle.tree_splits.specs.Grafts.{EntryPut}
 use Rattle.tree_splits.specs.Roots.{PairWritten, RootReady, RootGrown}
 use Rattle.tree_splits.proofs.GoodEntries.{GoodEntry, shapeIn, blocksIn, good-below, shape-entries, blocks-entries}
 use Rattle.tree_splits.proofs.KeptLists.{KeptList, kept-list}
-use Rattle.tree_splits.proofs.TakeUps.{holds-true, summary-ready}
+use Rattle.tree_splits.proofs.TakeUps.{holds-true, sums-small}
 
 module _ (b left right : ℕ) (first second : Summary) (p q : List ℕ) (inside : b < shares p) (empty : Emptied b p q) where
   module _ (r : List ℕ) (put : EntryPut b 0 left first q r) where
@@ -46,11 +45,11 @@ module _ (b left right : ℕ) (first second : Summary) (p q : List ℕ) (inside 
         }
 
 module _ (p m : List ℕ) (h left right holder : ℕ) (ready : RootReady p m h left right holder) where
-  pub left-ready : (left < shares p) × (entries p left ≤ most oneToAByte h) × SmallSums p h left
-  left-ready = summary-ready p h left (ready .leftSound) (omega (arith, ready .short))
+  pub left-small : SmallSums p h left
+  left-small = sums-small p h left (ready .leftSound) (omega (arith, ready .short))
 
-  pub right-ready : (right < shares p) × (entries p right ≤ most oneToAByte h) × SmallSums p h right
-  right-ready = summary-ready p h right (ready .rightSound) (omega (arith, ready .short))
+  pub right-small : SmallSums p h right
+  right-small = sums-small p h right (ready .rightSound) (omega (arith, ready .short))
 
   module _ (root : ℕ) (n : List ℕ) (taken : BlockTaken holder root m n) where
     module _ (first second : Summary) (firstOf : SummaryOf p h left first) (secondOf : SummaryOf p h right second) (q : List ℕ)

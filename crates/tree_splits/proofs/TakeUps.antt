@@ -3,7 +3,7 @@ use mathlib.Core.Path.{_≡_, refl, sym, ap, ap₂, _∙_}
 use mathlib.Core.Bool.{Bool, true, false, cond}
 use mathlib.Core.List.{List, [], _∷_, _++_}
 use mathlib.Core.Logic.{⊎-elim}
-use Prim.Native.Nat.{ℕ, zero, suc, _+_, _≤_, _<_}
+use Prim.Native.Nat.{ℕ, zero, suc, _+_, _<_}
 use native.Mathlib.Numerals.{add-one}
 use native.Mathlib.Omega.{arith}
 use lib.ListN.{length, take, drop, length-take}
@@ -13,7 +13,6 @@ use Rattle.sequence.proofs.Counts.{isMark-same, isMark-other, isMark-cases, cou
 use Rattle.sequence.specs.Definition1.{isMark, count}
 use Rattle.shape.specs.Level.{chop}
 use Rattle.shape.specs.Nested.{flat, marksIn}
-use Rattle.shape.specs.Sizes.{oneToAByte, most}
 use Rattle.pool.proofs.Changed.{only-then, only-wider}
 use Rattle.pool.proofs.Summaries.{own-marks, own-count}
 use Rattle.pool.specs.Blocks.{entries, link, marksBelow, countBelow}
@@ -29,7 +28,7 @@ use Rattle.pool_entries.specs.Summaries.{SummaryOf, SmallSums}
 use Rattle.pool_entries.specs.declared.Summary.{Summary}
 use Rattle.pool_holders.proofs.Maps.{fits-after}
 use Rattle.tree_splits.specs.Entries.{putAt, EntryHolds, TrueEntry, SoundChild}
-use Rattle.tree_splits.specs.Grafts.{GraftReady, Regrouped, Grafted, TakeUpReady, TakenUp}
+use Rattle.tree_splits.specs.Grafts.{GraftReady, Regrouped, Grafted, TakeUpReady, halved, SplitReady, TakenUp}
 use Rattle.tree_splits.specs.Inserts.{roots}
 use Rattle.tree_splits.specs.declared.Grown.{Grown}
 use Rattle.tree_splits.proofs.EntryPuts.{entry-holds}
@@ -57,14 +56,10 @@ holds-true p h child summary e holds of sound =
       counts = λ c inside. rw (holds .link) (holds .counts c inside ∙ of .counts c inside ∙ own-count p mostAlphabet h child c inside (sound .1));
     }
 
--- what a summary needs of a sound block whose marks are few enough
-pub summary-ready : (p : List ℕ) (h child : ℕ) → SoundChild p h child → marksIn h (shapeAt p h child) < wordLimit
-    → (child < shares p) × (entries p child ≤ most oneToAByte h) × SmallSums p h child
-summary-ready p h child sound few = (
-  sound .0 .inside,
-  sound .0 .fits,
-  small-sums p h child (flat h (shapeAt p h child)) (own-marks p mostAlphabet _ h child (sound .0) (sound .1)) (λ c inside. own-count p mostAlphabet h child c inside (sound .1)) few,
-)
+-- what a sound block says of its marks fits words if they are few enough
+pub sums-small : (p : List ℕ) (h child : ℕ) → SoundChild p h child → marksIn h (shapeAt p h child) < wordLimit → SmallSums p h child
+sums-small p h child sound few =
+    small-sums p h child (flat h (shapeAt p h child)) (own-marks p mostAlphabet _ h child (sound .0) (sound .1)) (λ c inside. own-count p mostAlphabet h child c inside (sound .1)) few
 
 module _ (p m : List ℕ) (h b k child c holder : ℕ) (g : Grown) (ready : TakeUpReady p m h b k child c holder g) where
   place-low : k < mostBranch
@@ -112,65 +107,66 @@ module _ (p m : List ℕ) (h b k child c holder : ℕ) (g : Grown) (ready : Take
               (omega (arith, ap length list, entries-length q b, entries-kept b k (put .same) place-low, ready .branch .fits));
         }
 
-  -- the child was split: two entries written
-  module _ (parted : g .split ≡ true) where
-    two-sound : SoundChild p h child × SoundChild p h (g .new)
-    two-sound = let both = rw (roots-two g child parted) at (ready .sound) in (both .0, both .1 .0)
+-- the child was split: two entries written
+module _ (p m : List ℕ) (h b k child new holder : ℕ) (split : SplitReady p m h b k child new holder) where
+  two-sound : SoundChild p h child × SoundChild p h new
+  two-sound = (split .ready .sound .0, split .ready .sound .1 .0)
 
-    two-marks : marksIn h (shapeAt p h child) + marksIn h (shapeAt p h (g .new)) ≡ marksBelow p b k + 1
-    two-marks = omega (arith, rw (roots-two g child parted) at (ready .marks))
+  low : k < mostBranch
+  low = place-low p m h b k child (split .symbol) holder (halved new) (split .ready)
 
-    pub left-ready : (child < shares p) × (entries p child ≤ most oneToAByte h) × SmallSums p h child
-    left-ready = summary-ready p h child (two-sound .0) (omega (arith, two-marks, ready .short))
+  two-marks : marksIn h (shapeAt p h child) + marksIn h (shapeAt p h new) ≡ marksBelow p b k + 1
+  two-marks = omega (arith, split .ready .marks)
 
-    pub right-ready : (g .new < shares p) × (entries p (g .new) ≤ most oneToAByte h) × SmallSums p h (g .new)
-    right-ready = summary-ready p h (g .new) (two-sound .1) (omega (arith, two-marks, ready .short))
+  pub child-small : SmallSums p h child
+  child-small = sums-small p h child (two-sound .0) (omega (arith, two-marks, split .ready .short))
 
-    pub set-ready : (b < shares p) × (k < mostBranch) × (child < wordLimit)
-    set-ready = (ready .branch .inside, place-low, omega (arith, two-sound .0 .0 .inside, ready .map .longest))
+  pub new-small : SmallSums p h new
+  new-small = sums-small p h new (two-sound .1) (omega (arith, two-marks, split .ready .short))
 
-    module _ (left right : Summary) (leftOf : SummaryOf p h child left) (rightOf : SummaryOf p h (g .new) right) (q : List ℕ) (put : PutEntry b k child left p q) where
-      many : entries q b ≡ entries p b
-      many = entries-kept b k (put .same) place-low
+  module _ (left : Summary) (q : List ℕ) (put : PutEntry b k child left p q) where
+    many : entries q b ≡ entries p b
+    many = entries-kept b k (put .same) low
 
-      pub graft-ready : GraftReady q m b (k + 1) (g .new) holder
-      graft-ready =
-          record {
-            map = fits-after p q m m (put .same .long) refl (ready .map);
-            named = ready .named;
-            branch = record { inside = omega (arith, ready .branch .inside, put .same .long); fits = omega (arith, many, ready .branch .fits) };
-            form = form-kept b k (put .same) place-low ∙ ready .form;
-            held = ready .held;
-            place = omega (arith, many, ready .place);
-            small = omega (arith, two-sound .1 .0 .inside, ready .map .longest);
-            room = omega (arith, many, ready .room, ap (λ (s : Bool). cond {A = ℕ} s 1 0) parted);
-          }
+    pub graft-ready : GraftReady q m b (k + 1) new holder
+    graft-ready =
+        record {
+          map = fits-after p q m m (put .same .long) refl (split .ready .map);
+          named = split .ready .named;
+          branch = record { inside = omega (arith, split .ready .branch .inside, put .same .long); fits = omega (arith, many, split .ready .branch .fits) };
+          form = form-kept b k (put .same) low ∙ split .ready .form;
+          held = split .ready .held;
+          place = omega (arith, many, split .ready .place);
+          small = omega (arith, two-sound .1 .0 .inside, split .ready .map .longest);
+          room = omega (arith, many, split .ready .room);
+        }
 
-      pub taken-up-two : (r : Grown) (t n : List ℕ) → Grafted b (k + 1) (g .new) holder right r q t m n → TakenUp h b k child holder g r p t m n
-      taken-up-two r t n grafted =
-          let es : List (List ℕ) = entryList p b in
-          let e : List ℕ = entryBytes q b k in
-          let holds : EntryHolds child left e = entry-holds b k child left p q put in
-          let list : entryList q b ≡ take k es ++ e ∷ drop (suc k) es = entry-written p q b k (ready .branch) (ready .place) (put .same) in
-          let front : length (take k es) ≡ k = omega (arith, length-take k es, entries-length p b, ready .place) in
-          let all : putAt (k + 1) (grafted .entry) (entryList q b) ≡ take k es ++ e ∷ grafted .entry ∷ drop (suc k) es =
-          ap₂ (λ (j : ℕ) (xs : List (List ℕ)). putAt j (grafted .entry) xs) (add-one k) list ∙ putAt-behind (take k es) e (grafted .entry) (drop (suc k) es) k front in
-          let old : Regrouped b holder r (putAt (k + 1) (grafted .entry) (entryList q b)) q t m n = grafted .regrouped in
-          record {
-            fresh = e ∷ grafted .entry ∷ [];
-            links = ap₂ (λ (x y : ℕ). x ∷ y ∷ []) (holds .link) (grafted .holds .link) ∙ sym (roots-two g child parted);
-            true = (
-              holds-true p h child left e holds leftOf (two-sound .0),
-              (holds-true p h (g .new) right (grafted .entry) (grafted .holds) rightOf (two-sound .1), tt),
-            );
-            regrouped =
-                record {
-                  lists = old .lists ∙ ap (chop mostBranch) all;
-                  inside = old .inside;
-                  forms = old .forms;
-                  only = only-then (only-wider _ (λ x s. omega (arith, isMark-same x b (sym s))) (only-entry b k (put .same) place-low)) (old .only);
-                  blocks = old .blocks;
-                  entered = old .entered;
-                  took = old .took;
-                };
-          }
+    pub taken-up-two : (right : Summary) → SummaryOf p h child left → SummaryOf p h new right → (r : Grown) (t n : List ℕ)
+        → Grafted b (k + 1) new holder right r q t m n → TakenUp h b k child holder (halved new) r p t m n
+    taken-up-two right leftOf rightOf r t n grafted =
+        let es : List (List ℕ) = entryList p b in
+        let e : List ℕ = entryBytes q b k in
+        let holds : EntryHolds child left e = entry-holds b k child left p q put in
+        let list : entryList q b ≡ take k es ++ e ∷ drop (suc k) es = entry-written p q b k (split .ready .branch) (split .ready .place) (put .same) in
+        let front : length (take k es) ≡ k = omega (arith, length-take k es, entries-length p b, split .ready .place) in
+        let all : putAt (k + 1) (grafted .entry) (entryList q b) ≡ take k es ++ e ∷ grafted .entry ∷ drop (suc k) es =
+        ap₂ (λ (j : ℕ) (xs : List (List ℕ)). putAt j (grafted .entry) xs) (add-one k) list ∙ putAt-behind (take k es) e (grafted .entry) (drop (suc k) es) k front in
+        let old : Regrouped b holder r (putAt (k + 1) (grafted .entry) (entryList q b)) q t m n = grafted .regrouped in
+        record {
+          fresh = e ∷ grafted .entry ∷ [];
+          links = ap₂ (λ (x y : ℕ). x ∷ y ∷ []) (holds .link) (grafted .holds .link);
+          true = (
+            holds-true p h child left e holds leftOf (two-sound .0),
+            (holds-true p h new right (grafted .entry) (grafted .holds) rightOf (two-sound .1), tt),
+          );
+          regrouped =
+              record {
+                lists = old .lists ∙ ap (chop mostBranch) all;
+                inside = old .inside;
+                forms = old .forms;
+                only = only-then (only-wider _ (λ x s. omega (arith, isMark-same x b (sym s))) (only-entry b k (put .same) low)) (old .only);
+                blocks = old .blocks;
+                entered = old .entered;
+                took = old .took;
+              };
+        }

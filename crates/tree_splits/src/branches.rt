@@ -29,7 +29,8 @@ pub fn take_up(
     holder: u8,
 ) -> Grown
     requires { ⌜ SplitReady (now pool) (now map) level b k child new holder ⌝ }
-    ensures { λ r. ⌜ TakenUp level b k child holder (halved new) r (now (pool .entry)) (now (pool .exit)) (now (map .entry)) (now (map .exit)) ⌝ }
+    ensures { λ r. ⌜ TakenUp level b k child holder (halved new) r (now (pool .entry)) (now (pool .exit))
+        (now (map .entry)) (now (map .exit)) ⌝ }
 {
     let left = summary_of(pool, level, child);
     let right = summary_of(pool, level, new);

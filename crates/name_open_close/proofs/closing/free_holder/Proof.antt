@@ -13,41 +13,17 @@ Inv-loop map₀ holder b₀ map b = FreedBelow holder b map₀ map
 abbrev μ-loop : tie.MeasureT-loop
 μ-loop map₀ holder b₀ map b = length map₀ - b
 
-loop-holds : tie.Need-loop-holds Inv-loop μ-loop
-loop-holds c = search freed-below-none
-
-slice-read-if1 : tie.Need-slice-read-if1 Inv-loop μ-loop
-slice-read-if1 c = search needs
-
-slice-write-map : tie.Need-slice-write-map Inv-loop μ-loop
-slice-write-map c = search needs
-
-add-b : tie.Need-add-b Inv-loop μ-loop
-add-b c = search needs
-
-loop-less : tie.Need-loop-less Inv-loop μ-loop
-loop-less c = search needs
-
-loop-again : tie.Need-loop-again Inv-loop μ-loop
-loop-again c = ⊎-elim (λ w. rw (w .1) (search freed-one)) (λ w. rw (w .1) (search freed-other)) (c .if1 .came)
-
-same-length : tie.Need-same-length Inv-loop μ-loop
-same-length c = search needs
-
-returns : tie.Need-returns Inv-loop μ-loop
-returns c = search freed-all
-
 pub free-holder-spec : {M : Type 1} → statement M
 free-holder-spec =
     tie.close
     (tie.spec
     Inv-loop
     μ-loop
-    loop-holds
-    slice-read-if1
-    slice-write-map
-    add-b
-    loop-less
-    loop-again
-    same-length
-    returns)
+    (λ c. search freed-below-none)  -- loop-holds
+    (λ c. search needs)
+    (λ c. search needs)
+    (λ c. search needs)
+    (λ c. search needs)
+    (λ c. ⊎-elim (λ w. rw (w .1) (search freed-one)) (λ w. rw (w .1) (search freed-other)) (c .if1 .came))  -- loop-again
+    (λ c. search needs)
+    (λ c. search freed-all))  -- returns
