@@ -7,7 +7,7 @@ use mathlib.Core.Path.{_≡_, refl, sym, ap, ap₂, subst, _∙_}
 use Prim.Native.Nat.{ℕ, _+_, _-_, _*_, _≤_, _<_}
 use native.Mathlib.Omega.{arith}
 use lib.ListN.{length, set}
-use Rattle.geometry.specs.Limits.{names, directorySize, marksPerShare}
+use Rattle.geometry.specs.Limits.{names, marksPerShare}
 use Rattle.geometry.specs.declared.Record.{Record}
 use Rattle.machine.specs.Machine.{trees}
 use Rattle.name_open_close.specs.Updates.{NameIn, OpenReady, CloseReady, Updated}
@@ -29,7 +29,7 @@ use Rattle.protocol.specs.Commands.{
   unpromisedCode,
   edited,
 }
-use Rattle.protocol.specs.Respond.{accepted, refused, respond}
+use Rattle.protocol.specs.Respond.{accepted, valueTo, refused, respond}
 use Rattle.protocol.specs.State.{Part, closed, opened, alphabetOf, sharesOf, marksOf, partOf, unpromised}
 use Rattle.protocol.specs.declared.Answer.{Answer}
 use Rattle.protocol.specs.declared.Command.{Command}
@@ -46,12 +46,13 @@ use Rattle.frame_queries.proofs.Effects.{
   insert-effect,
   delete-effect,
 }
-use Rattle.frame_queries.specs.Accepted.{answerOf, valueTo}
+use Rattle.frame_queries.specs.Accepted.{answerOf}
 use Rattle.sequence.specs.Definition1.{access}
 use Rattle.shape.specs.Sizes.{oneToAByte}
 use Rattle.shape.specs.Trees.{Tree, emptyT, insertT, deleteT}
 use Rattle.frame_status.proofs.Codes.{listed-within}
-use Rattle.frame_status.specs.Statuses.{statusIn}
+use Rattle.frame_status.proofs.Forms.{name-below}
+use Rattle.frame_status.specs.Statuses.{statusIn, WellFormed, FormStatus, Naming}
 use Rattle.name_edits.specs.Edits.{InsertAt, DeleteAt, InsertedAt, DeletedAt}
 use Rattle.frame_execute.specs.Steps.{isChange, Kept, Stepped, Ready}
 
@@ -80,17 +81,35 @@ module _ (p m : List ℕ) (c : Command) (ready : Ready p m) where
         map = ready .map;
       }
 
-  pub refused-steps : (status : ℕ) → status ≡ statusIn p c → (status ≡ 0 → ⊥)
-      → Stepped p c (record { status = status; name = c .name; symbol = 0; depth = 0; value = 0 }) p m
-  refused-steps status is some =
+  pub refused-steps : (status : ℕ) (a : Answer) → status ≡ statusIn p c → (status ≡ 0 → ⊥) → a ≡ refused status c → Stepped p c a p m
+  refused-steps status a is some told =
       let given : respond trees (meaning p) c .answer .status ≡ status = respond-status trees (meaning p) c ∙ sym is in
       let refusal : respond trees (meaning p) c .answer .status ≢ 0 = λ none. some (sym given ∙ none) in
-      stays-itself _
-      (ap (λ s. refused s c) (sym given) ∙ sym (refused-answers-zeros trees (meaning p) c refusal))
+      stays-itself a
+      (told ∙ ap (λ s. refused s c) (sym given) ∙ sym (refused-answers-zeros trees (meaning p) c refusal))
       (refused-keeps-state trees (meaning p) c refusal)
+
+  -- a command refused by its form
+  pub form-steps : (status : ℕ) (a : Answer) → FormStatus c status → (status ≡ 0 → ⊥) → a ≡ refused status c → Stepped p c a p m
+  form-steps status a form some = refused-steps status a (form .refused some p) some
+
+  -- and one whose form passes
+  pub form-passes : (status : ℕ) → FormStatus c status → status ≡ 0 → WellFormed c
+  form-passes status form none = form .passed none
 
   pub asked-steps : (a : Answer) → a ≡ answerOf p c → accessCode ≤ c .code → Stepped p c a p m
   asked-steps a is late = stays-itself a is (query-keeps-state trees (meaning p) c late)
+
+  pub unpromised-steps : (a : Answer) → a ≡ answerOf p c → c .code ≡ unpromisedCode → Stepped p c a p m
+  unpromised-steps a is code = asked-steps a is (omega arith)
+
+  -- a well-formed command that names a name: the name's record can be read, and its tests made
+  module _ (formed : WellFormed c) (named : c .code ≢ unpromisedCode) where
+    pub named-low : c .name < names
+    named-low = name-below c formed named
+
+    pub named-tests : (found : Record) → found ≡ recordOf p (c .name) → Naming p c found
+    named-tests found read = record { sound = ready .sound; formed = formed; named = named; read = read }
 
 -- One name changes.
 module _ (p m : List ℕ) (c : Command) (ready : Ready p m) (status : statusIn p c ≡ 0) where
@@ -150,10 +169,10 @@ module _ (p m : List ℕ) (c : Command) (ready : Ready p m) (status : statusIn p
 
   -- a closing
   module _ (is : c .code ≡ closeCode) where
-    close-open : ToOpen p c
+    close-open : ToOpen p c (recordOf p (c .name))
     close-open =
         accepted-open p c (ready .sound) status (λ (e : c .code ≡ unpromisedCode). omega arith)
-        (close-accepted trees (unpromised (meaning p)) (partOf (meaning p) (c .name)) c is status)
+        (close-accepted trees (unpromised (meaning p)) (partOf (meaning p) (c .name)) c is status) (recordOf p (c .name)) refl
 
     pub close-ready : CloseReady p m (c .name)
     close-ready = record { within = within (close-open .low); opened = close-open .opened }
@@ -169,11 +188,9 @@ module _ (p m : List ℕ) (c : Command) (ready : Ready p m) (status : statusIn p
     insert-allowed : InsertAccepted trees (partOf (meaning p) (c .name)) c
     insert-allowed = insert-accepted trees (unpromised (meaning p)) (partOf (meaning p) (c .name)) c is status
 
-    insert-open : ToOpen p c
-    insert-open = accepted-open p c (ready .sound) status (λ (e : c .code ≡ unpromisedCode). omega arith) (insert-allowed .is-open)
-
-    pub insert-reads : (c .name < names) × (directorySize ≤ length p)
-    insert-reads = (insert-open .low, omega (arith, ready .sound .allowed .shortest))
+    insert-open : ToOpen p c (recordOf p (c .name))
+    insert-open =
+        accepted-open p c (ready .sound) status (λ (e : c .code ≡ unpromisedCode). omega arith) (insert-allowed .is-open) (recordOf p (c .name)) refl
 
     pub insert-ready : InsertAt p m (c .name) (c .number) (c .symbol)
     insert-ready =
@@ -209,11 +226,9 @@ module _ (p m : List ℕ) (c : Command) (ready : Ready p m) (status : statusIn p
     delete-allowed : PlaceAccepted trees (partOf (meaning p) (c .name)) c
     delete-allowed = delete-accepted trees (unpromised (meaning p)) (partOf (meaning p) (c .name)) c is status
 
-    delete-open : ToOpen p c
-    delete-open = accepted-open p c (ready .sound) status (λ (e : c .code ≡ unpromisedCode). omega arith) (delete-allowed .is-open)
-
-    pub delete-reads : (c .name < names) × (directorySize ≤ length p)
-    delete-reads = (delete-open .low, omega (arith, ready .sound .allowed .shortest))
+    delete-open : ToOpen p c (recordOf p (c .name))
+    delete-open =
+        accepted-open p c (ready .sound) status (λ (e : c .code ≡ unpromisedCode). omega arith) (delete-allowed .is-open) (recordOf p (c .name)) refl
 
     pub delete-ready : DeleteAt p m (c .name) (c .number)
     delete-ready =

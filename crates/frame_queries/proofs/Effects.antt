@@ -3,10 +3,12 @@ use mathlib.Core.Bool.{true}
 use mathlib.Core.List.{List}
 use mathlib.Core.Logic.{_≢_}
 use mathlib.Core.Path.{_≡_, sym, ap, _∙_}
-use Prim.Native.Nat.{ℕ, _-_, _≤_, _<_}
+use Prim.Native.Nat.{ℕ, _*_, _≤_, _<_}
 use native.Mathlib.Omega.{arith}
 use lib.ListN.{length}
-use Rattle.geometry.specs.Limits.{names, mostMarks}
+use Rattle.geometry.specs.Layout.{mostHeight}
+use Rattle.geometry.specs.Limits.{names, mostAlphabet, marksPerShare, mostMarks}
+use Rattle.geometry.specs.declared.Record.{Record}
 use Rattle.machine.specs.Machine.{trees}
 use Rattle.pool.proofs.Meanings.{part-meaning}
 use Rattle.pool.proofs.Sums.{sumBelow-one}
@@ -46,6 +48,8 @@ use Rattle.protocol.specs.declared.Command.{Command}
 use Rattle.shape.specs.Trees.{Tree, marksT}
 use Rattle.frame_status.specs.Statuses.{statusIn}
 use Rattle.frame_status.proofs.Parts.{is-open, is-closed, opened-part}
+use Rattle.tree_query.proofs.Opened.{open-record}
+use Rattle.tree_query.specs.Records.{OpenRecord, treeBy}
 use Rattle.frame_queries.specs.Accepted.{answerOf}
 
 -- the effect of a command on a pool
@@ -89,14 +93,20 @@ module _ (free : ℕ) (part : Part Tree) (c : Command) where
   unfolding rows
   unpromised-effect is = rw is
 
--- the command names an open name
-pub record ToOpen (p : List ℕ) (c : Command) : Type 0 where
+-- the command names an open name, of which this is the record
+pub record ToOpen (p : List ℕ) (c : Command) (found : Record) : Type 0 where
   pub low : c .name < names
   pub opened : OpenName p (c .name)
-  pub part : partOf (meaning p) (c .name) ≡ State.opened (recordOf p (c .name) .alphabet) (recordOf p (c .name) .q) (treeOf p (c .name))
+  pub asked : OpenRecord p found
+  pub long : found .length ≡ length (marksT (treeBy p found))
+  pub most : found .alphabet ≤ mostAlphabet
+  pub high : found .height ≤ mostHeight
+  pub room : found .length ≤ marksPerShare * found .q
+  pub few : length (marksT (treeBy p found)) ≤ mostMarks
+  pub part : partOf (meaning p) (c .name) ≡ State.opened (found .alphabet) (found .q) (treeBy p found)
 
 -- an open name of a sound pool has few marks
-pub marks-few : (p : List ℕ) (name : ℕ) → Sound p → name < names → OpenName p name → length (marksT (treeOf p name)) ≤ mostMarks
+marks-few : (p : List ℕ) (name : ℕ) → Sound p → name < names → OpenName p name → length (marksT (treeOf p name)) ≤ mostMarks
 unfolding promisedShares
 marks-few p name sound low o =
     omega (arith, sound .allowed, sound .promised, o .length, o .room, sumBelow-one names (λ x. recordOf p x .q) name low)
@@ -117,8 +127,20 @@ module _ (p : List ℕ) (c : Command) (sound : Sound p) (status : statusIn p c �
   pub accepted-closed : c .name < names → partOf (meaning p) (c .name) ≡ closed → ClosedName p (c .name)
   accepted-closed low is = is-closed p (c .name) sound low (ap isOpen (sym (part-meaning p (c .name) low) ∙ is))
 
-  pub accepted-open : c .code ≢ unpromisedCode → isOpen (partOf (meaning p) (c .name)) ≡ true → ToOpen p c
-  accepted-open named holds =
+  pub accepted-open : c .code ≢ unpromisedCode → isOpen (partOf (meaning p) (c .name)) ≡ true
+      → (found : Record) → found ≡ recordOf p (c .name)
+      → ToOpen p c found
+  accepted-open named holds found read =
       let low = accepted-low named in
       let opened = is-open p (c .name) sound low (ap isOpen (sym (part-meaning p (c .name) low)) ∙ holds) in
-      record { low = low; opened = opened; part = opened-part p (c .name) sound low opened }
+      record {
+        low = low;
+        opened = opened;
+        asked = open-record p (c .name) found opened read;
+        long = rw read (opened .length);
+        most = rw read (opened .alphabetMost);
+        high = rw read (opened .height);
+        room = rw read (opened .room);
+        few = rw read (marks-few p (c .name) sound low opened);
+        part = rw read (opened-part p (c .name) sound low opened);
+      }
