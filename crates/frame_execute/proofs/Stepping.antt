@@ -27,6 +27,7 @@ use Rattle.protocol.specs.Commands.{
   deleteCode,
   accessCode,
   unpromisedCode,
+  rows,
   edited,
 }
 use Rattle.protocol.specs.Respond.{accepted, valueTo, refused, respond}
@@ -41,10 +42,7 @@ use Rattle.frame_queries.proofs.Effects.{
   accepted-low,
   accepted-closed,
   accepted-open,
-  open-effect,
-  close-effect,
-  insert-effect,
-  delete-effect,
+  coded-effect,
 }
 use Rattle.frame_queries.specs.Accepted.{answerOf}
 use Rattle.sequence.specs.Definition1.{access}
@@ -162,8 +160,9 @@ module _ (p m : List ℕ) (c : Command) (ready : Ready p m) (status : statusIn p
 
     pub open-steps : (q n : List ℕ) (a : Answer) → Updated (c .name) (opened (c .symbol) (c .number) emptyT) p q n → a ≡ valueTo c 0
         → Stepped p c a q n
+    unfolding rows
     open-steps q n a done told =
-        let effect = open-effect (unpromised (meaning p)) (partOf (meaning p) (c .name)) c is in
+        let effect = coded-effect (unpromised (meaning p)) (partOf (meaning p) (c .name)) c openCode is in
         update-steps q n a open-low (ap isChange is) (told ∙ sym (ap (accepted c) effect))
         (subst (λ (e : Effect Tree). Updated (c .name) (e .part) p q n) (sym effect) done)
 
@@ -178,8 +177,9 @@ module _ (p m : List ℕ) (c : Command) (ready : Ready p m) (status : statusIn p
     close-ready = record { within = within (close-open .low); opened = close-open .opened }
 
     pub close-steps : (q n : List ℕ) (a : Answer) → Updated (c .name) closed p q n → a ≡ valueTo c 0 → Stepped p c a q n
+    unfolding rows
     close-steps q n a done told =
-        let effect = close-effect (unpromised (meaning p)) (partOf (meaning p) (c .name)) c is in
+        let effect = coded-effect (unpromised (meaning p)) (partOf (meaning p) (c .name)) c closeCode is in
         update-steps q n a (close-open .low) (ap isChange is) (told ∙ sym (ap (accepted c) effect))
         (subst (λ (e : Effect Tree). Updated (c .name) (e .part) p q n) (sym effect) done)
 
@@ -209,8 +209,9 @@ module _ (p m : List ℕ) (c : Command) (ready : Ready p m) (status : statusIn p
     pub insert-steps : (q n : List ℕ) (found : Record) (a : Answer) → found ≡ recordOf p (c .name) → InsertedAt (c .name) (c .number) (c .symbol) p q n
         → a ≡ valueTo c (found .length + 1)
         → Stepped p c a q n
+    unfolding rows
     insert-steps q n found a read done told =
-        let effect = insert-effect (unpromised (meaning p)) (partOf (meaning p) (c .name)) c is in
+        let effect = coded-effect (unpromised (meaning p)) (partOf (meaning p) (c .name)) c insertCode is in
         let marks : found .length ≡ length (marksOf trees (partOf (meaning p) (c .name)))
         = ap (λ (r : Record). r .length) read
         ∙ insert-open .opened .length
@@ -251,8 +252,9 @@ module _ (p m : List ℕ) (c : Command) (ready : Ready p m) (status : statusIn p
 
       pub delete-steps : (q n : List ℕ) (mark : ℕ) → DeletedAt (c .name) (c .number) mark p q n
           → Stepped p c (record { status = 0; name = c .name; symbol = mark; depth = 0; value = found .length - 1 }) q n
+      unfolding rows
       delete-steps q n mark done =
-          let effect = delete-effect (unpromised (meaning p)) (partOf (meaning p) (c .name)) c is in
+          let effect = coded-effect (unpromised (meaning p)) (partOf (meaning p) (c .name)) c deleteCode is in
           let kept = ap (marksOf trees) (delete-open .part) in
           let marks : found .length ≡ length (marksOf trees (partOf (meaning p) (c .name)))
           = ap (λ (r : Record). r .length) read ∙ delete-open .opened .length ∙ sym (ap length kept) in

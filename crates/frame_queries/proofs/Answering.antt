@@ -12,7 +12,7 @@ use Rattle.pool.specs.Meaning.{meaning}
 use Rattle.pool.specs.Shares.{unpromisedShares}
 use Rattle.pool.specs.Sound.{Sound}
 use Rattle.protocol.proofs.Accepted.{PlaceAccepted, RankAccepted, SelectAccepted, access-accepted, rank-accepted, select-accepted, length-accepted, code-is-listed}
-use Rattle.protocol.specs.Commands.{accessCode, rankCode, selectCode, lengthCode, unpromisedCode, accesses, ranks, selects, tells}
+use Rattle.protocol.specs.Commands.{accessCode, rankCode, selectCode, lengthCode, unpromisedCode, rows}
 use Rattle.protocol.specs.Respond.{accepted, valueTo}
 use Rattle.protocol.specs.State.{Part, alphabetOf, marksOf, partOf, unpromised}
 use Rattle.protocol.specs.declared.Answer.{Answer}
@@ -29,16 +29,7 @@ use Rattle.frame_status.proofs.Codes.{listed-within}
 use Rattle.frame_status.proofs.Refused.{unpromised-passes}
 use Rattle.frame_status.specs.Statuses.{statusIn, WellFormed}
 use Rattle.frame_queries.specs.Accepted.{Accepted, answerOf}
-use Rattle.frame_queries.proofs.Effects.{
-  ToOpen,
-  accepted-answer,
-  accepted-open,
-  access-effect,
-  rank-effect,
-  select-effect,
-  length-effect,
-  unpromised-effect,
-}
+use Rattle.frame_queries.proofs.Effects.{ToOpen, accepted-answer, accepted-open, coded-effect, open-answer}
 
 -- Access.
 module _ (p : List ℕ) (c : Command) (found : Record) (a : Accepted p c found) (is : c .code ≡ accessCode) where
@@ -63,11 +54,10 @@ module _ (p : List ℕ) (c : Command) (found : Record) (a : Accepted p c found) 
     depth-fits = omega (arith, answer .depth, depth-height (c .number) (treeBy p found), access-open .high)
 
     pub access-answers : _≡_ {A = Answer} (record { status = 0; name = c .name; symbol = place .mark; depth = place .blocks; value = 0 }) (answerOf p c)
+    unfolding rows
     access-answers =
         sym
-        (accepted-answer p c (a .sound) (a .status)
-        ∙ ap (accepted c) (access-effect _ _ c is)
-        ∙ ap (λ (part : Part Tree). accepted c (accesses trees (unpromised (meaning p)) part c)) (access-open .part)
+        (open-answer p c found a access-open accessCode is
         ∙ rw (answer .mark, answer .depth))
 
 -- Rank.
@@ -93,13 +83,12 @@ module _ (p : List ℕ) (c : Command) (found : Record) (a : Accepted p c found) 
     rank-fits = omega (arith, ranked, rank-le-place (c .symbol) (marksT (treeBy p found)) (c .number), rank-last, rank-open .few)
 
     pub rank-answers : (answer : Answer) → answer ≡ valueTo c r → answer ≡ answerOf p c
+    unfolding rows
     rank-answers answer told =
         told
         ∙ ap (valueTo c) ranked
         ∙ sym
-        (accepted-answer p c (a .sound) (a .status)
-        ∙ ap (accepted c) (rank-effect _ _ c is)
-        ∙ ap (λ (part : Part Tree). accepted c (ranks trees (unpromised (meaning p)) part c)) (rank-open .part))
+        (open-answer p c found a rank-open rankCode is)
 
 -- Select.
 module _ (p : List ℕ) (c : Command) (found : Record) (a : Accepted p c found) (is : c .code ≡ selectCode) where
@@ -127,13 +116,12 @@ module _ (p : List ℕ) (c : Command) (found : Record) (a : Accepted p c found) 
     select-fits = omega (arith, selected, select-le-length (c .symbol) (marksT (treeBy p found)) (c .number), select-open .few)
 
     pub select-answers : (answer : Answer) → answer ≡ valueTo c r → answer ≡ answerOf p c
+    unfolding rows
     select-answers answer told =
         told
         ∙ ap (valueTo c) selected
         ∙ sym
-        (accepted-answer p c (a .sound) (a .status)
-        ∙ ap (accepted c) (select-effect _ _ c is)
-        ∙ ap (λ (part : Part Tree). accepted c (selects trees (unpromised (meaning p)) part c)) (select-open .part))
+        (open-answer p c found a select-open selectCode is)
 
 -- Length, the last code that names a name.
 module _ (p : List ℕ) (c : Command) (found : Record) (a : Accepted p c found) where
@@ -146,6 +134,7 @@ module _ (p : List ℕ) (c : Command) (found : Record) (a : Accepted p c found) 
       )
 
   length-is : c .code ≡ lengthCode → (answer : Answer) → answer ≡ valueTo c (found .length) → answer ≡ answerOf p c
+  unfolding rows
   length-is is answer told =
       let named : ToOpen p c found =
       accepted-open p c (a .sound) (a .status) (λ (e : c .code ≡ unpromisedCode). omega arith)
@@ -153,9 +142,7 @@ module _ (p : List ℕ) (c : Command) (found : Record) (a : Accepted p c found) 
       told
       ∙ ap (valueTo c) (named .long)
       ∙ sym
-      (accepted-answer p c (a .sound) (a .status)
-      ∙ ap (accepted c) (length-effect _ _ c is)
-      ∙ ap (λ (part : Part Tree). accepted c (tells trees (unpromised (meaning p)) part c)) (named .part))
+      (open-answer p c found a named lengthCode is)
 
   pub length-answers : accessCode ≤ c .code → (c .code ≡ unpromisedCode → ⊥) → (c .code ≡ accessCode → ⊥) → (c .code ≡ rankCode → ⊥)
       → (c .code ≡ selectCode → ⊥)
@@ -166,8 +153,9 @@ module _ (p : List ℕ) (c : Command) (found : Record) (a : Accepted p c found) 
 -- Unpromised shares.
 module _ (p : List ℕ) (c : Command) (sound : Sound p) (formed : WellFormed c) (is : c .code ≡ unpromisedCode) where
   pub unpromised-answers : (free : ℕ) (answer : Answer) → free ≡ unpromisedShares p → answer ≡ valueTo c free → answer ≡ answerOf p c
+  unfolding rows
   unpromised-answers free answer read told =
       let status : statusIn p c ≡ 0 = sym (unpromised-passes p c formed is) in
       told
       ∙ ap (valueTo c) (read ∙ sym (unpromised-meaning p sound))
-      ∙ sym (accepted-answer p c sound status ∙ ap (accepted c) (unpromised-effect _ _ c is))
+      ∙ sym (accepted-answer p c sound status ∙ ap (accepted c) (coded-effect _ _ c unpromisedCode is))

@@ -18,29 +18,7 @@ use Rattle.pool.specs.Shares.{promisedShares}
 use Rattle.pool.specs.Sound.{ClosedName, OpenName, Sound}
 use Rattle.protocol.proofs.Accepted.{name-is-below}
 use Rattle.protocol.proofs.Replies.{accepted-reply, respond-answer}
-use Rattle.protocol.specs.Commands.{
-  Effect,
-  openCode,
-  closeCode,
-  insertCode,
-  deleteCode,
-  accessCode,
-  rankCode,
-  selectCode,
-  lengthCode,
-  unpromisedCode,
-  rows,
-  rowFor,
-  opens,
-  closes,
-  inserts,
-  deletes,
-  accesses,
-  ranks,
-  selects,
-  tells,
-  tellsUnpromised,
-}
+use Rattle.protocol.specs.Commands.{Effect, unpromisedCode, rows, rowOf, rowFor}
 use Rattle.protocol.specs.Respond.{accepted, reply}
 use Rattle.protocol.specs.State.{Part, closed, isOpen, partOf, unpromised}
 use Rattle.protocol.specs.State as State
@@ -50,48 +28,16 @@ use Rattle.frame_status.specs.Statuses.{statusIn}
 use Rattle.frame_status.proofs.Parts.{is-open, is-closed, opened-part}
 use Rattle.tree_query.proofs.Opened.{open-record}
 use Rattle.tree_query.specs.Records.{OpenRecord, treeBy}
-use Rattle.frame_queries.specs.Accepted.{answerOf}
+use Rattle.frame_queries.specs.Accepted.{Accepted, answerOf}
 
 -- the effect of a command on a pool
 abbrev pub effectIn : List ℕ → Command → Effect Tree
 effectIn p c = rowFor trees c .effect (unpromised (meaning p)) (partOf (meaning p) (c .name)) c
 
-module _ (free : ℕ) (part : Part Tree) (c : Command) where
-  pub open-effect : c .code ≡ openCode → rowFor trees c .effect free part c ≡ opens trees free part c
-  unfolding rows
-  open-effect is = rw is
-
-  pub close-effect : c .code ≡ closeCode → rowFor trees c .effect free part c ≡ closes trees free part c
-  unfolding rows
-  close-effect is = rw is
-
-  pub insert-effect : c .code ≡ insertCode → rowFor trees c .effect free part c ≡ inserts trees free part c
-  unfolding rows
-  insert-effect is = rw is
-
-  pub delete-effect : c .code ≡ deleteCode → rowFor trees c .effect free part c ≡ deletes trees free part c
-  unfolding rows
-  delete-effect is = rw is
-
-  pub access-effect : c .code ≡ accessCode → rowFor trees c .effect free part c ≡ accesses trees free part c
-  unfolding rows
-  access-effect is = rw is
-
-  pub rank-effect : c .code ≡ rankCode → rowFor trees c .effect free part c ≡ ranks trees free part c
-  unfolding rows
-  rank-effect is = rw is
-
-  pub select-effect : c .code ≡ selectCode → rowFor trees c .effect free part c ≡ selects trees free part c
-  unfolding rows
-  select-effect is = rw is
-
-  pub length-effect : c .code ≡ lengthCode → rowFor trees c .effect free part c ≡ tells trees free part c
-  unfolding rows
-  length-effect is = rw is
-
-  pub unpromised-effect : c .code ≡ unpromisedCode → rowFor trees c .effect free part c ≡ tellsUnpromised trees free part c
-  unfolding rows
-  unpromised-effect is = rw is
+-- and by its code, which the table has
+pub coded-effect : (free : ℕ) (part : Part Tree) (c : Command) (code : ℕ) → c .code ≡ code
+    → rowFor trees c .effect free part c ≡ rowOf code (rows trees) .effect free part c
+coded-effect free part c code is = ap (λ x. rowOf x (rows trees) .effect free part c) is
 
 -- the command names an open name, of which this is the record
 pub record ToOpen (p : List ℕ) (c : Command) (found : Record) : Type 0 where
@@ -144,3 +90,12 @@ module _ (p : List ℕ) (c : Command) (sound : Sound p) (status : statusIn p c �
         few = rw read (marks-few p (c .name) sound low opened);
         part = rw read (opened-part p (c .name) sound low opened);
       }
+
+-- the answer to a command of this code that names an open name, by the name's record
+pub open-answer : (p : List ℕ) (c : Command) (found : Record) → Accepted p c found → ToOpen p c found → (code : ℕ) → c .code ≡ code
+    → answerOf p c
+    ≡ accepted c (rowOf code (rows trees) .effect (unpromised (meaning p)) (State.opened (found .alphabet) (found .q) (treeBy p found)) c)
+open-answer p c found a to code is =
+    accepted-answer p c (a .sound) (a .status)
+    ∙ ap (accepted c) (coded-effect _ _ c code is)
+    ∙ ap (λ (part : Part Tree). accepted c (rowOf code (rows trees) .effect (unpromised (meaning p)) part c)) (to .part)

@@ -97,27 +97,17 @@ module _ (p : List ℕ) (c : Command) (found : Record) (n : Naming p c found) wh
             (opening-closed
             ∙ rw (le-leb leastAlphabet (c .symbol) least, le-leb (c .symbol) mostAlphabet most, eq-eqb (c .number) 0 none))
 
-        pub opening-exceeds : (free : ℕ) → (c .number ≡ 0 → ⊥) → free ≡ unpromisedShares p → free < c .number → 12 ≡ statusIn p c
-        opening-exceeds free some is more =
-            sym
-            (opening-closed
-            ∙ rw (
-              le-leb leastAlphabet (c .symbol) least,
-              le-leb (c .symbol) mostAlphabet most,
-              ne-eqb (c .number) 0 some,
-              lt-ltb (unpromisedShares p) (c .number) (omega (arith, is)),
-            ))
+        module _ (free : ℕ) (some : c .number ≡ 0 → ⊥) (told : free ≡ unpromisedShares p) where
+          opening-shares : statusIn p c ≡ cond (ltb free (c .number)) 12 0
+          opening-shares =
+              opening-closed
+              ∙ rw (le-leb leastAlphabet (c .symbol) least, le-leb (c .symbol) mostAlphabet most, ne-eqb (c .number) 0 some, told)
 
-        pub opening-passes : (free : ℕ) → (c .number ≡ 0 → ⊥) → free ≡ unpromisedShares p → c .number ≤ free → 0 ≡ statusIn p c
-        opening-passes free some is enough =
-            sym
-            (opening-closed
-            ∙ rw (
-              le-leb leastAlphabet (c .symbol) least,
-              le-leb (c .symbol) mostAlphabet most,
-              ne-eqb (c .number) 0 some,
-              le-ltb (unpromisedShares p) (c .number) (omega (arith, is)),
-            ))
+          pub opening-exceeds : free < c .number → 12 ≡ statusIn p c
+          opening-exceeds more = sym (opening-shares ∙ rw (lt-ltb free (c .number) more))
+
+          pub opening-passes : c .number ≤ free → 0 ≡ statusIn p c
+          opening-passes enough = sym (opening-shares ∙ rw (le-ltb free (c .number) enough))
 
   -- a command to a name that must be open
   module _ (other : c .code ≢ openCode) where
@@ -230,22 +220,11 @@ module _ (p : List ℕ) (c : Command) (found : Record) (k : Asking p c found) wh
           sym (select-is ∙ rw (lt-leb (found .alphabet) (c .symbol) inside, eq-eqb (c .number) 0 zero))
 
       module _ (many : ℕ) (counted : many ≡ count (c .symbol) (marksT (treeBy p found))) (some : c .number ≡ 0 → ⊥) where
+        select-counted : statusIn p c ≡ cond (ltb many (c .number)) 10 0
+        select-counted = select-is ∙ rw (lt-leb (found .alphabet) (c .symbol) inside, ne-eqb (c .number) 0 some, counted)
+
         pub select-past : many < c .number → 10 ≡ statusIn p c
-        select-past past =
-            sym
-            (select-is
-            ∙ rw (
-              lt-leb (found .alphabet) (c .symbol) inside,
-              ne-eqb (c .number) 0 some,
-              lt-ltb (count (c .symbol) (marksT (treeBy p found))) (c .number) (omega (arith, counted)),
-            ))
+        select-past past = sym (select-counted ∙ rw (lt-ltb many (c .number) past))
 
         pub select-passes : c .number ≤ many → 0 ≡ statusIn p c
-        select-passes within =
-            sym
-            (select-is
-            ∙ rw (
-              lt-leb (found .alphabet) (c .symbol) inside,
-              ne-eqb (c .number) 0 some,
-              le-ltb (count (c .symbol) (marksT (treeBy p found))) (c .number) (omega (arith, counted)),
-            ))
+        select-passes within = sym (select-counted ∙ rw (le-ltb many (c .number) within))
