@@ -26,7 +26,7 @@ use Rattle.sequence.specs.Definition1.{count, rank, select}
 use Rattle.shape.proofs.Height.{depth-height}
 use Rattle.shape.specs.Trees.{Tree, marksT}
 use Rattle.frame_status.proofs.Codes.{listed-within}
-use Rattle.frame_status.proofs.Refused.{unpromised-passes}
+use Rattle.frame_status.proofs.Statuses.{unpromised-passes}
 use Rattle.frame_status.specs.Statuses.{statusIn, WellFormed}
 use Rattle.frame_queries.specs.Accepted.{Accepted, answerOf}
 use Rattle.frame_queries.proofs.Effects.{ToOpen, accepted-answer, accepted-open, coded-effect, open-answer}

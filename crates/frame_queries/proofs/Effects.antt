@@ -17,7 +17,7 @@ use Rattle.pool.specs.Names.{recordOf, treeOf}
 use Rattle.pool.specs.Shares.{promisedShares}
 use Rattle.pool.specs.Sound.{ClosedName, OpenName, Sound}
 use Rattle.protocol.proofs.Accepted.{name-is-below}
-use Rattle.protocol.proofs.Replies.{accepted-reply, respond-answer}
+use Rattle.protocol.proofs.Respond.{accepted-reply, respond-answer}
 use Rattle.protocol.specs.Commands.{Effect, unpromisedCode, rows, rowOf, rowFor}
 use Rattle.protocol.specs.Respond.{accepted, reply}
 use Rattle.protocol.specs.State.{Part, closed, isOpen, partOf, unpromised}
@@ -26,7 +26,7 @@ use Rattle.protocol.specs.declared.Command.{Command}
 use Rattle.shape.specs.Trees.{Tree, marksT}
 use Rattle.frame_status.specs.Statuses.{statusIn}
 use Rattle.frame_status.proofs.Parts.{is-open, is-closed, opened-part}
-use Rattle.tree_query.proofs.Opened.{open-record}
+use Rattle.tree_query.proofs.Records.{open-record}
 use Rattle.tree_query.specs.Records.{OpenRecord, treeBy}
 use Rattle.frame_queries.specs.Accepted.{Accepted, answerOf}
 

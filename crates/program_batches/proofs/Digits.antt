@@ -8,7 +8,7 @@ use Rattle.text_hex.specs.Lines.{lineOf, digitsOfFrame}
 use Rattle.text_hex.proofs.Numbers.{digits-of-both}
 use Rattle.protocol.specs.Frames.{numberOf, answerOfBytes, bytesOfAnswer}
 use Rattle.protocol.specs.declared.Answer.{Answer}
-use Rattle.protocol.proofs.Bytes.{number-of-bytes}
+use Rattle.protocol.proofs.Frames.{number-of-bytes}
 use Rattle.program_batches.specs.Answers.{lineOfAnswer, lineOfBytes}
 
 -- eight digits go by the number below 2^32

@@ -23,7 +23,7 @@ use Rattle.shape.specs.Fill.{rootLeast}
 use Rattle.shape.specs.Nested.{flat, marksIn}
 use Rattle.shape.specs.Trees.{marksT}
 use Rattle.tree_query.specs.Records.{OpenRecord, treeBy}
-use Rattle.tree_query.proofs.Opened.{record-length}
+use Rattle.tree_query.proofs.Records.{record-length}
 
 -- A branch.
 sum-last : (n : ℕ) (f : ℕ → ℕ) → 1 ≤ n → sumBelow (n - 1) f + f (n - 1) ≡ sumBelow n f

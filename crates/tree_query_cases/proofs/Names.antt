@@ -12,7 +12,7 @@ use Rattle.pool.specs.Sound.{Sound}
 use Rattle.pool_check.specs.Parts.{Checked}
 use Rattle.sequence.specs.Definition1.{count, rank}
 use Rattle.sequence.proofs.Ranks.{rank-le-count}
-use Rattle.tree_query.proofs.Opened.{open-by-kind, open-record}
+use Rattle.tree_query.proofs.Records.{open-by-kind, open-record}
 use Rattle.tree_query.specs.Records.{OpenRecord}
 
 -- a pool that the check takes is sound

@@ -1,7 +1,7 @@
 -- `call_run::run` meets its contract: where a test refused the call nothing was touched; else the frames run with the part of the map that the
 -- pool's shares need.
 use borrow.Author.Needs.{needs}
-use Rattle.call_run.proofs.Calling.{call-refused, directory-inside, shares-inside, part-long, count-fits, frames-ready, call-done}
+use Rattle.call_run.proofs.Calls.{call-refused, directory-inside, shares-inside, part-long, count-fits, frames-ready, call-done}
 use Rattle.call_run.proofs.run.Statement.{statement}
 use Rattle.call_run.proofs.run.Tie as tie
 

@@ -4,7 +4,7 @@ use Prim.Native.Nat.{_-_, _/_}
 use borrow.Author.Needs.{needs}
 use lib.ListN.{length}
 use Rattle.geometry.specs.Limits.{frameSize}
-use Rattle.call_run.proofs.Progress.{FramesDone, none-run, pool-stays, map-stays, one-run, all-run}
+use Rattle.call_run.proofs.Frames.{FramesDone, none-run, pool-stays, map-stays, one-run, all-run}
 use Rattle.call_run.proofs.run_frames.Statement.{statement}
 use Rattle.call_run.proofs.run_frames.Tie as tie
 

@@ -1,5 +1,5 @@
 -- `call_tests::commands_allowed` meets its contract, test by test.
-use Rattle.call_tests.proofs.Testing.{part-of-a-frame, at-most-all}
+use Rattle.call_tests.proofs.Tests.{part-of-a-frame, at-most-all}
 use Rattle.call_tests.proofs.commands_allowed.Statement.{statement}
 use Rattle.call_tests.proofs.commands_allowed.Tie as tie
 

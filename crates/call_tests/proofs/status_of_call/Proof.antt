@@ -1,7 +1,7 @@
 -- `call_tests::status_of_call` meets its contract, test by test.
 use borrow.Author.Needs.{needs}
 use borrow.Author.Tests.{not-true, not-false}
-use Rattle.call_tests.proofs.Testing.{refuse-101, refuse-102, refuse-103, refuse-104, accept}
+use Rattle.call_tests.proofs.Tests.{refuse-101, refuse-102, refuse-103, refuse-104, accept}
 use Rattle.call_tests.proofs.status_of_call.Statement.{statement}
 use Rattle.call_tests.proofs.status_of_call.Tie as tie
 

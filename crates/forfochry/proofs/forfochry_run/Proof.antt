@@ -1,6 +1,6 @@
 -- `forfochry::forfochry_run` meets its contract: what `run` promises of its outcome holds of the number made of it.
 use borrow.Author.Needs.{needs}
-use Rattle.forfochry.proofs.Halves.{ran-as-number}
+use Rattle.forfochry.proofs.Numbers.{ran-as-number}
 use Rattle.forfochry.proofs.forfochry_run.Statement.{statement}
 use Rattle.forfochry.proofs.forfochry_run.Tie as tie
 

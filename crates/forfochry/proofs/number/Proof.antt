@@ -1,6 +1,6 @@
 -- `forfochry::number` meets its contract: the halves of the number are the outcome's fields.
 use borrow.Author.Needs.{needs}
-use Rattle.forfochry.proofs.Halves.{halves-are}
+use Rattle.forfochry.proofs.Numbers.{halves-are}
 use Rattle.forfochry.proofs.number.Statement.{statement}
 use Rattle.forfochry.proofs.number.Tie as tie
 

@@ -1,6 +1,6 @@
 -- `frame_execute::execute` meets its contract: a refusal and the query that names no name step to the same pool.
 use borrow.Author.Needs.{needs}
-use Rattle.frame_execute.proofs.Stepping.{form-steps, form-passes, unpromised-steps}
+use Rattle.frame_execute.proofs.Steps.{form-steps, form-passes, unpromised-steps}
 use Rattle.frame_execute.proofs.execute.Statement.{statement}
 use Rattle.frame_execute.proofs.execute.Tie as tie
 

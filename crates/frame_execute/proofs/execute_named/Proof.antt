@@ -1,6 +1,6 @@
 -- `frame_execute::execute_named` meets its contract: a refusal and a query step to the same pool, and a change to the one that it leaves.
 use borrow.Author.Needs.{needs}
-use Rattle.frame_execute.proofs.Stepping.{named-low, named-tests, refused-steps, asked-steps}
+use Rattle.frame_execute.proofs.Steps.{named-low, named-tests, refused-steps, asked-steps}
 use Rattle.frame_execute.proofs.execute_named.Statement.{statement}
 use Rattle.frame_execute.proofs.execute_named.Tie as tie
 

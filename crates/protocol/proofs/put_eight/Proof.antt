@@ -2,7 +2,7 @@
 use native.Mathlib.Omega.{arith}
 use borrow.Author.Needs.{needs}
 use lib.ListN.{length-set}
-use Rattle.protocol.proofs.Bytes.{eight-put}
+use Rattle.protocol.proofs.Frames.{eight-put}
 use Rattle.protocol.proofs.put_eight.Statement.{statement}
 use Rattle.protocol.proofs.put_eight.Tie as tie
 

@@ -1,7 +1,7 @@
 -- `tree_query_cases::compare_open` is safe: the record says how many marks the name has, and so many are expected.
 use native.Mathlib.Omega.{arith}
 use borrow.Author.Needs.{needs}
-use Rattle.tree_query.proofs.Opened.{record-length}
+use Rattle.tree_query.proofs.Records.{record-length}
 use Rattle.tree_query_cases.proofs.compare_open.Statement.{statement}
 use Rattle.tree_query_cases.proofs.compare_open.Tie as tie
 

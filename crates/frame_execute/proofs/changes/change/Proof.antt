@@ -1,6 +1,6 @@
 -- `frame_execute::changes::change` meets its contract: a code before access that nothing refuses is one of four.
 use borrow.Author.Needs.{needs}
-use Rattle.frame_execute.proofs.Stepping.{last-change}
+use Rattle.frame_execute.proofs.Steps.{last-change}
 use Rattle.frame_execute.proofs.changes.change.Statement.{statement}
 use Rattle.frame_execute.proofs.changes.change.Tie as tie
 

@@ -1,6 +1,6 @@
 -- `frame_execute::changes::close_name` meets its contract: a closing that nothing refuses can be made, and is the machine's.
 use borrow.Author.Needs.{needs}
-use Rattle.frame_execute.proofs.Stepping.{close-ready, close-steps}
+use Rattle.frame_execute.proofs.Steps.{close-ready, close-steps}
 use Rattle.frame_execute.proofs.changes.close_name.Statement.{statement}
 use Rattle.frame_execute.proofs.changes.close_name.Tie as tie
 

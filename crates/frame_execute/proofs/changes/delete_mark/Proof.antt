@@ -1,6 +1,6 @@
 -- `frame_execute::changes::delete_mark` meets its contract: a delete that nothing refuses can be made, and is the machine's.
 use borrow.Author.Needs.{needs}
-use Rattle.frame_execute.proofs.Stepping.{delete-ready, delete-some, delete-steps}
+use Rattle.frame_execute.proofs.Steps.{delete-ready, delete-some, delete-steps}
 use Rattle.frame_execute.proofs.changes.delete_mark.Statement.{statement}
 use Rattle.frame_execute.proofs.changes.delete_mark.Tie as tie
 

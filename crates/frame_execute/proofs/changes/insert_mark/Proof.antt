@@ -1,6 +1,6 @@
 -- `frame_execute::changes::insert_mark` meets its contract: an insert that nothing refuses can be made, and is the machine's.
 use borrow.Author.Needs.{needs}
-use Rattle.frame_execute.proofs.Stepping.{insert-ready, insert-steps}
+use Rattle.frame_execute.proofs.Steps.{insert-ready, insert-steps}
 use Rattle.frame_execute.proofs.changes.insert_mark.Statement.{statement}
 use Rattle.frame_execute.proofs.changes.insert_mark.Tie as tie
 

@@ -1,6 +1,6 @@
 -- `frame_execute::changes::open_name` meets its contract: an opening that nothing refuses can be made, and is the machine's.
 use borrow.Author.Needs.{needs}
-use Rattle.frame_execute.proofs.Stepping.{open-ready, open-steps}
+use Rattle.frame_execute.proofs.Steps.{open-ready, open-steps}
 use Rattle.frame_execute.proofs.changes.open_name.Statement.{statement}
 use Rattle.frame_execute.proofs.changes.open_name.Tie as tie
 

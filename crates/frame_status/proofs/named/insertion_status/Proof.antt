@@ -1,7 +1,7 @@
 -- `frame_status::named::insertion_status` meets its contract: one law for each status that an insert can get.
 use borrow.Author.Needs.{needs}
 use borrow.Author.Tests.{not-true, not-false}
-use Rattle.frame_status.proofs.Refused.{insert-symbol, insert-outside, insert-full, insert-passes}
+use Rattle.frame_status.proofs.Statuses.{insert-symbol, insert-outside, insert-full, insert-passes}
 use Rattle.frame_status.proofs.named.insertion_status.Statement.{statement}
 use Rattle.frame_status.proofs.named.insertion_status.Tie as tie
 

@@ -1,7 +1,7 @@
 -- `frame_status::named::named_status` meets its contract: the name is closed, or the command's own tests decide.
 use borrow.Author.Needs.{needs}
 use mathlib.Core.Logic.{inl, inr}
-use Rattle.frame_status.proofs.Refused.{naming-closed, naming-asks, naming-status, naming-passes}
+use Rattle.frame_status.proofs.Statuses.{naming-closed, naming-asks, naming-status, naming-passes}
 use Rattle.frame_status.proofs.named.named_status.Statement.{statement}
 use Rattle.frame_status.proofs.named.named_status.Tie as tie
 

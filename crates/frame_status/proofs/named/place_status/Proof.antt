@@ -1,7 +1,7 @@
 -- `frame_status::named::place_status` meets its contract: one law for each status that a delete or an access can get.
 use borrow.Author.Needs.{needs}
 use borrow.Author.Tests.{not-true, not-false}
-use Rattle.frame_status.proofs.Refused.{place-outside, place-passes}
+use Rattle.frame_status.proofs.Statuses.{place-outside, place-passes}
 use Rattle.frame_status.proofs.named.place_status.Statement.{statement}
 use Rattle.frame_status.proofs.named.place_status.Tie as tie
 

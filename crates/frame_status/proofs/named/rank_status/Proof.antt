@@ -1,7 +1,7 @@
 -- `frame_status::named::rank_status` meets its contract: one law for each status that a rank can get.
 use borrow.Author.Needs.{needs}
 use borrow.Author.Tests.{not-true, not-false}
-use Rattle.frame_status.proofs.Refused.{rank-symbol, rank-outside, rank-passes}
+use Rattle.frame_status.proofs.Statuses.{rank-symbol, rank-outside, rank-passes}
 use Rattle.frame_status.proofs.named.rank_status.Statement.{statement}
 use Rattle.frame_status.proofs.named.rank_status.Tie as tie
 

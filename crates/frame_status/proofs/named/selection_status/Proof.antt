@@ -1,6 +1,6 @@
 -- `frame_status::named::selection_status` meets its contract: one law for each status that a select can get.
 use borrow.Author.Needs.{needs}
-use Rattle.frame_status.proofs.Refused.{asked-record, select-symbol, select-counts, select-zero, select-past, select-passes}
+use Rattle.frame_status.proofs.Statuses.{asked-record, select-symbol, select-counts, select-zero, select-past, select-passes}
 use Rattle.frame_status.proofs.named.selection_status.Statement.{statement}
 use Rattle.frame_status.proofs.named.selection_status.Tie as tie
 

@@ -1,6 +1,6 @@
 -- `frame_status::openings::opening_status` meets its contract: one law for each status that an opening can get.
 use borrow.Author.Needs.{needs}
-use Rattle.frame_status.proofs.Refused.{opening-opened, opening-small, opening-large, opening-no-shares, opening-exceeds, opening-passes}
+use Rattle.frame_status.proofs.Statuses.{opening-opened, opening-small, opening-large, opening-no-shares, opening-exceeds, opening-passes}
 use Rattle.frame_status.proofs.openings.opening_status.Statement.{statement}
 use Rattle.frame_status.proofs.openings.opening_status.Tie as tie
 

@@ -1,6 +1,6 @@
 -- `protocol::Answer::decode` meets its contract: the fields stand where a command's do.
 use borrow.Author.Needs.{needs}
-use Rattle.protocol.proofs.Bytes.{answer-at}
+use Rattle.protocol.proofs.Frames.{answer-at}
 use Rattle.protocol.proofs.Answer.decode.Statement.{statement}
 use Rattle.protocol.proofs.Answer.decode.Tie as tie
 

@@ -1,6 +1,6 @@
 -- `protocol::Command::decode` meets its contract: each field is read where the eight bytes from `at` on have it.
 use borrow.Author.Needs.{needs}
-use Rattle.protocol.proofs.Bytes.{command-at}
+use Rattle.protocol.proofs.Frames.{command-at}
 use Rattle.protocol.proofs.Command.decode.Statement.{statement}
 use Rattle.protocol.proofs.Command.decode.Tie as tie
 

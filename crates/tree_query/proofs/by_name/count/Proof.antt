@@ -1,6 +1,6 @@
 -- `tree_query::by_name::count` meets its contract, for a root that is a leaf and for any other.
 use borrow.Author.Needs.{needs}
-use Rattle.tree_query.proofs.Opened.{record-good}
+use Rattle.tree_query.proofs.Records.{record-good}
 use Rattle.tree_query.proofs.Counted.{leaf-ready, leaf-counted, branch-inside, branch-least, branch-most, branch-few, branch-counted}
 use Rattle.tree_query.proofs.by_name.count.Statement.{statement}
 use Rattle.tree_query.proofs.by_name.count.Tie as tie

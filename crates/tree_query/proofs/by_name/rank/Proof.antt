@@ -1,6 +1,6 @@
 -- `tree_query::by_name::rank` meets its contract: what the root's block answers is the name's answer.
 use borrow.Author.Needs.{needs}
-use Rattle.tree_query.proofs.Opened.{record-good}
+use Rattle.tree_query.proofs.Records.{record-good}
 use Rattle.tree_query.proofs.by_name.rank.Statement.{statement}
 use Rattle.tree_query.proofs.by_name.rank.Tie as tie
 

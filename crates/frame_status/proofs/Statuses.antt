@@ -20,7 +20,7 @@ use Rattle.protocol.specs.State.{Part, closed, opened, partOf, unpromised}
 use Rattle.protocol.specs.declared.Command.{Command}
 use Rattle.sequence.specs.Definition1.{count}
 use Rattle.shape.specs.Trees.{Tree, marksT}
-use Rattle.tree_query.proofs.Opened.{open-by-kind, open-record, record-length}
+use Rattle.tree_query.proofs.Records.{open-by-kind, open-record, record-length}
 use Rattle.tree_query.specs.Records.{OpenRecord, treeBy}
 use Rattle.frame_status.specs.Statuses.{statusIn, WellFormed, Naming, Asking, StatusBy}
 use Rattle.frame_status.proofs.Codes.{listed-within}

@@ -2,7 +2,7 @@
 -- of the meaning, which the machine's effect is, and no other name's record or blocks.
 use mathlib.Core.Bool.{true, true≢false}
 use mathlib.Core.List.{List, [], _∷_}
-use mathlib.Core.Logic.{_⊎_, _≢_, ⊎-elim}
+use mathlib.Core.Logic.{_≢_, ⊎-elim}
 use mathlib.Core.Path.{_≡_, refl, sym, ap, ap₂, subst, _∙_}
 use Prim.Native.Nat.{ℕ, _+_, _-_, _*_, _≤_, _<_}
 use native.Mathlib.Omega.{arith}
@@ -18,7 +18,7 @@ use Rattle.pool.specs.Meaning.{meaning}
 use Rattle.pool.specs.Names.{recordOf, blocksOf}
 use Rattle.pool.specs.Untouched.{SameBlocks}
 use Rattle.protocol.proofs.Accepted.{InsertAccepted, PlaceAccepted, open-accepted, close-accepted, insert-accepted, delete-accepted, code-is-listed}
-use Rattle.protocol.proofs.Replies.{respond-status, refused-keeps-state, refused-answers-zeros, query-keeps-state}
+use Rattle.protocol.proofs.Respond.{respond-status, refused-keeps-state, refused-answers-zeros, query-keeps-state}
 use Rattle.protocol.specs.Commands.{
   Effect,
   openCode,
