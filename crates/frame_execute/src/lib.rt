@@ -19,9 +19,9 @@ pub fn execute(pool: &mut [u8], c: Command, map: &mut [u8]) -> Answer
     requires { ⌜ Ready (now pool) (now map) ⌝ }
     ensures { λ r. ⌜ Stepped (now (pool .entry)) c r (now (pool .exit)) (now (map .exit)) ⌝ }
 {
-    let status = form_status(c);
-    if status != 0 {
-        return Answer::refused(c, status);
+    let form = form_status(c);
+    if form != 0 {
+        return Answer::refused(c, form);
     }
     if c.code == Command::UNPROMISED {
         return ask_unpromised(pool, c);
