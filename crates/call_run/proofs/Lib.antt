@@ -1,6 +1,6 @@
-pub mod Following
+pub mod Runs
 pub mod Outcomes
 pub mod Cutting
-pub mod Progress
+pub mod Frames
 pub mod Formatting
-pub mod Calling
+pub mod Calls

@@ -19,7 +19,7 @@ use Rattle.shape.specs.Nested.{joined}
 use Rattle.call_run.specs.Alike.{SameOutcome}
 use Rattle.call_run.specs.Calls.{Formats, Answered, Ran}
 use Rattle.call_run.specs.Runs.{commandsIn}
-use Rattle.call_run.proofs.Following.{runs-answers, runs-meaning}
+use Rattle.call_run.proofs.Runs.{runs-answers, runs-meaning}
 
 -- one test: its number where it fails, and else what the tests behind it give
 abbrev Test : ℕ → Type 0 → (ℕ → Type 0) → ℕ → Type 0

@@ -8,13 +8,13 @@ use lib.ListN.{length, drop, length-append, length-drop}
 use lib.Seq.{take-at, drop-at}
 use Rattle.geometry.specs.Limits.{frameSize}
 use Rattle.call_run.proofs.Cutting.{commands-many}
-use Rattle.call_run.proofs.Following.{runs-many, runs-long, runs-sound}
+use Rattle.call_run.proofs.Runs.{runs-many, runs-long, runs-sound}
 use Rattle.call_run.proofs.Outcomes.{TestsPassed, all-passed}
 use Rattle.call_run.specs.Calls.{Ran}
 use Rattle.call_run.specs.Runs.{Runs, eights, commandsIn}
 use Rattle.call_tests.specs.declared.Outcome.{Outcome}
 use Rattle.pool.specs.Sound.{Sound}
-use Rattle.protocol.proofs.Bytes.{length-of-answer}
+use Rattle.protocol.proofs.Frames.{length-of-answer}
 use Rattle.protocol.specs.Frames.{bytesOfAnswer}
 use Rattle.protocol.specs.declared.Answer.{Answer}
 use Rattle.sequence.specs.Items.{All}

@@ -10,7 +10,7 @@ use Rattle.machine.specs.Machine.{trees}
 use Rattle.pool.proofs.Froms.{length-from}
 use Rattle.pool.specs.Meaning.{meaningOf, meaning}
 use Rattle.protocol.proofs.Accepted.{insert-accepted, delete-accepted, name-is-below}
-use Rattle.protocol.proofs.Replies.{accepted-reply, respond-answer, own-part-after}
+use Rattle.protocol.proofs.Respond.{accepted-reply, respond-answer, own-part-after}
 use Rattle.protocol.specs.Commands.{
   Effect,
   edited,

@@ -3,7 +3,7 @@
 use mathlib.Core.Bool.{Bool, true, false, cond}
 use mathlib.Core.Path.{_≡_, refl, sym, ap, _∙_}
 use mathlib.Core.List.{List, [], _∷_, map, map-map}
-use mathlib.Core.Logic.{_⊎_, inl, inr, ⊎-elim}
+use mathlib.Core.Logic.{inl, inr, ⊎-elim}
 use Prim.Native.Nat.{ℕ, _<_}
 use native.Mathlib.Nat.{eq-zero-or-pos}
 use native.Mathlib.Omega.{arith}
@@ -18,7 +18,7 @@ use Rattle.call_run.specs.Runs.{commandsIn}
 use Rattle.call_tests.specs.declared.Outcome.{Outcome}
 use Rattle.machine.specs.Machine.{trees}
 use Rattle.pool.specs.Meaning.{meaning}
-use Rattle.protocol.proofs.Replies.{refused-answers-zeros}
+use Rattle.protocol.proofs.Respond.{refused-answers-zeros}
 use Rattle.protocol.specs.Frames.{bytesOfAnswer}
 use Rattle.protocol.specs.Respond.{refused}
 use Rattle.sequence.specs.Items.{All}

@@ -15,7 +15,7 @@ use Rattle.machine.specs.OneName.{beside, isTo, isOpening, framesTo}
 use Rattle.pool.proofs.Meanings.{part-meaning}
 use Rattle.pool.specs.Meaning.{meaningOf, meaning}
 use Rattle.protocol.proofs.Accepted.{open-accepted}
-use Rattle.protocol.proofs.Replies.{refused-reply, respond-status, own-part-after}
+use Rattle.protocol.proofs.Respond.{refused-reply, respond-status, own-part-after}
 use Rattle.protocol.specs.Commands.{openCode}
 use Rattle.protocol.specs.Refusals.{statusOf}
 use Rattle.protocol.specs.Respond.{reply}

@@ -2,13 +2,13 @@
 use mathlib.Core.Bool.{true, false≢true}
 use mathlib.Core.Path.{_≡_, refl, sym, ap, _∙_}
 use mathlib.Core.List.{List, map}
-use mathlib.Core.Logic.{_≢_, inr, ⊎-elim}
+use mathlib.Core.Logic.{inr, ⊎-elim}
 use Prim.Native.Nat.{ℕ, _≤_, _<_}
 use native.Mathlib.Omega.{arith}
 use lib.ListN.{length, List·getD-map}
 use Rattle.geometry.specs.Limits.{names}
-use Rattle.machine.proofs.Depths.{access-tells-depth, others-tell-no-depth}
-use Rattle.machine.proofs.Image.{image-of-respond}
+use Rattle.machine.proofs.Depth.{access-tells-depth, others-tell-no-depth}
+use Rattle.machine.proofs.Machine.{image-of-respond}
 use Rattle.machine.specs.Depth.{DepthTold}
 use Rattle.machine.specs.Machine.{trees}
 use Rattle.pool.proofs.Meanings.{closed-meaning, open-meaning, part-meaning, valid-meaning}
@@ -17,9 +17,9 @@ use Rattle.pool.specs.Meaning.{meaning}
 use Rattle.pool.specs.Names.{recordOf, treeOf}
 use Rattle.pool.specs.Sound.{OpenName, Sound}
 use Rattle.protocol.proofs.Accepted.{access-accepted, name-is-below}
-use Rattle.protocol.proofs.EdgesHold.{edges-hold}
-use Rattle.protocol.proofs.Replies.{respond-status, refused-answers-zeros}
-use Rattle.protocol.proofs.Statuses.{status-is-lowest, full-exactly-when, shares-exceeded-exactly-when}
+use Rattle.protocol.proofs.Edges.{edges-hold}
+use Rattle.protocol.proofs.Respond.{respond-status, refused-answers-zeros}
+use Rattle.protocol.proofs.Refusals.{status-is-lowest, full-exactly-when, shares-exceeded-exactly-when}
 use Rattle.protocol.specs.Commands.{openCode, insertCode, accessCode}
 use Rattle.protocol.specs.Refusals.{statusOf}
 use Rattle.protocol.specs.Frames.{bytesOfAnswer}

@@ -2,7 +2,7 @@
 use mathlib.Core.Path.{_≡_, refl, sym, ap, ap₂, _∙_}
 use mathlib.Core.List.{List, [], _∷_, _++_, map, map-append}
 use Prim.Native.Nat.{ℕ}
-use Rattle.call_run.proofs.Following.{runs-append, runs-answers, runs-meaning}
+use Rattle.call_run.proofs.Runs.{runs-append, runs-answers, runs-meaning}
 use Rattle.call_run.specs.Runs.{Runs, commandsIn}
 use Rattle.machine.specs.Machine.{trees}
 use Rattle.pool.specs.Meaning.{meaning}

@@ -31,7 +31,8 @@ framesOf p (c ∷ cs) answers q runs =
     ∷ framesOf (runs .middle) cs (runs .behind) q (runs .rest)
 
 -- the frames of an accepted call
-abbrev pub framesRun : {p commands room : List ℕ} {r : Outcome} {q filled : List ℕ} → Ran p commands room r q filled → r .status ≡ 0 → List Frame
+abbrev pub framesRun : {p commands room : List ℕ} {r : Outcome} {q filled : List ℕ} → Ran p commands room r q filled → r .status ≡ 0
+    → List Frame
 framesRun {p} {commands} {room} {r} {q} {filled} ran zero =
     framesOf p (commandsIn commands) (ran .accepted zero .answers) q (ran .accepted zero .runs)
 

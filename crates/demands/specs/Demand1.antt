@@ -74,8 +74,8 @@ pub record Demand1 : Type 0 where
   pub run : (p commands room : List ℕ) (r : Outcome) (q filled : List ℕ) (ran : Ran p commands room r q filled)
       → RunTakesAll p commands room r q filled ran
   -- and no two outcomes differ, but in the bytes of pools that mean the same
-  pub alone : (p commands room : List ℕ) (r : Outcome) (q filled : List ℕ) (r′ : Outcome) (q′ filled′ : List ℕ) → Ran p commands room r q filled
-      → Ran p commands room r′ q′ filled′ → SameOutcome r q filled r′ q′ filled′
+  pub alone : (p commands room : List ℕ) (r : Outcome) (q filled : List ℕ) (r′ : Outcome) (q′ filled′ : List ℕ)
+      → Ran p commands room r q filled → Ran p commands room r′ q′ filled′ → SameOutcome r q filled r′ q′ filled′
   pub mark : (line : List ℕ) (r : ℕ) → r ≡ markOf line → MarkTakesAll r
 
 -- That the calls end, rely on nothing, and promise what is said above.

@@ -110,8 +110,8 @@ pub record FromRootTo (p path : List ℕ) (root i : ℕ) (all : List ℕ) : Type
 -- an access that isn't refused tells how many blocks stand from the root to the block that bears the place, by the depth rule
 pub record DepthOfPlace (f : Frame) : Type 0 where
   pub own : f .answer .depth ≡ length (pathOf (f .before) (f .command .name) (f .command .number))
-  pub path : FromRootTo (f .before) (pathOf (f .before) (f .command .name) (f .command .number)) (recordOf (f .before) (f .command .name) .root)
-      (f .command .number) (marks f)
+  pub path : FromRootTo (f .before) (pathOf (f .before) (f .command .name) (f .command .number))
+      (recordOf (f .before) (f .command .name) .root) (f .command .number) (marks f)
   pub rule : DepthRule (length (marks f)) (f .answer .depth)
   pub same : f .after ≡ f .before
 

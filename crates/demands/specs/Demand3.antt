@@ -89,7 +89,8 @@ framesIn p (call ∷ calls) q session = framesRun (session .ran) (session .accep
 -- the tree is a function of the opening and of its own commands since
 abbrev pub ShapeIsOwn : ℕ → Frame → List Frame → List ℕ → Type 0
 ShapeIsOwn x opening since q =
-    meaningOf q x ≡ partAfter (opened (opening .command .symbol) (opening .command .number) emptyT) (framesTo x (map (λ f. f .command) since))
+    meaningOf q x
+    ≡ partAfter (opened (opening .command .symbol) (opening .command .number) emptyT) (framesTo x (map (λ f. f .command) since))
 
 pub record Demand3 : Type 0 where
   -- answers and meaning are demand 2's

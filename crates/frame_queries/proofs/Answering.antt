@@ -4,21 +4,21 @@ use mathlib.Core.Path.{_≡_, sym, ap, _∙_}
 use Prim.Native.Nat.{ℕ, _^_, _≤_, _<_}
 use native.Mathlib.Omega.{arith}
 use lib.ListN.{length}
-use Rattle.geometry.specs.Limits.{names, directorySize, mostAlphabet}
+use Rattle.geometry.specs.Limits.{mostAlphabet}
 use Rattle.geometry.specs.declared.Record.{Record}
 use Rattle.machine.specs.Machine.{trees}
 use Rattle.pool.proofs.Meanings.{unpromised-meaning}
 use Rattle.pool.specs.Meaning.{meaning}
-use Rattle.pool.specs.Names.{recordOf, treeOf}
 use Rattle.pool.specs.Shares.{unpromisedShares}
-use Rattle.pool.specs.Sound.{OpenName}
+use Rattle.pool.specs.Sound.{Sound}
 use Rattle.protocol.proofs.Accepted.{PlaceAccepted, RankAccepted, SelectAccepted, access-accepted, rank-accepted, select-accepted, length-accepted, code-is-listed}
-use Rattle.protocol.specs.Commands.{accessCode, rankCode, selectCode, lengthCode, unpromisedCode, accesses, ranks, selects, tells}
-use Rattle.protocol.specs.Respond.{accepted}
+use Rattle.protocol.specs.Commands.{accessCode, rankCode, selectCode, lengthCode, unpromisedCode, rows}
+use Rattle.protocol.specs.Respond.{accepted, valueTo}
 use Rattle.protocol.specs.State.{Part, alphabetOf, marksOf, partOf, unpromised}
 use Rattle.protocol.specs.declared.Answer.{Answer}
 use Rattle.protocol.specs.declared.Command.{Command}
 use Rattle.tree_query.specs.Answers.{FoundOf}
+use Rattle.tree_query.specs.Records.{OpenRecord, treeBy}
 use Rattle.tree_query.specs.declared.Found.{Found}
 use Rattle.sequence.proofs.Ranks.{rank-le-place}
 use Rattle.sequence.proofs.Selects.{select-le-length}
@@ -26,153 +26,136 @@ use Rattle.sequence.specs.Definition1.{count, rank, select}
 use Rattle.shape.proofs.Height.{depth-height}
 use Rattle.shape.specs.Trees.{Tree, marksT}
 use Rattle.frame_status.proofs.Codes.{listed-within}
-use Rattle.frame_queries.specs.Accepted.{Accepted, answerOf, valueTo}
-use Rattle.frame_queries.proofs.Effects.{
-  ToOpen,
-  marks-few,
-  accepted-answer,
-  accepted-open,
-  access-effect,
-  rank-effect,
-  select-effect,
-  length-effect,
-  unpromised-effect,
-}
+use Rattle.frame_status.proofs.Statuses.{unpromised-passes}
+use Rattle.frame_status.specs.Statuses.{statusIn, WellFormed}
+use Rattle.frame_queries.specs.Accepted.{Accepted, answerOf}
+use Rattle.frame_queries.proofs.Effects.{ToOpen, accepted-answer, accepted-open, coded-effect, open-answer}
 
 -- Access.
-module _ (p : List ℕ) (c : Command) (a : Accepted p c) (is : c .code ≡ accessCode) where
+module _ (p : List ℕ) (c : Command) (found : Record) (a : Accepted p c found) (is : c .code ≡ accessCode) where
   access-allowed : PlaceAccepted trees (partOf (meaning p) (c .name)) c
   access-allowed = access-accepted trees (unpromised (meaning p)) (partOf (meaning p) (c .name)) c is (a .status)
 
-  access-open : ToOpen p c
-  access-open = accepted-open p c (a .sound) (a .status) (λ (e : c .code ≡ unpromisedCode). omega arith) (access-allowed .is-open)
+  access-open : ToOpen p c found
+  access-open =
+      accepted-open p c (a .sound) (a .status) (λ (e : c .code ≡ unpromisedCode). omega arith) (access-allowed .is-open) found (a .read)
 
-  pub access-ready : ((c .name < names) × OpenName p (c .name)) × ((1 ≤ c .number) × (c .number ≤ length (marksT (treeOf p (c .name)))))
-  access-ready = (
-    (access-open .low, access-open .opened),
-    (access-allowed .low, omega (arith, access-allowed .high, ap (λ (part : Part Tree). length (marksOf trees part)) (access-open .part))),
-  )
+  pub access-record : OpenRecord p found
+  access-record = access-open .asked
 
-  module _ (found : Found) (answer : FoundOf p (c .name) (c .number) found) where
-    pub depth-fits : found .blocks < 256
-    depth-fits = omega (arith, answer .depth, depth-height (c .number) (treeOf p (c .name)), access-open .opened .height)
+  pub access-first : 1 ≤ c .number
+  access-first = access-allowed .low
 
-    pub access-answers : _≡_ {A = Answer} (record { status = 0; name = c .name; symbol = found .mark; depth = found .blocks; value = 0 }) (answerOf p c)
+  pub access-last : c .number ≤ length (marksT (treeBy p found))
+  access-last = omega (arith, access-allowed .high, ap (λ (part : Part Tree). length (marksOf trees part)) (access-open .part))
+
+  module _ (place : Found) (answer : FoundOf p found (c .number) place) where
+    pub depth-fits : place .blocks < 256
+    depth-fits = omega (arith, answer .depth, depth-height (c .number) (treeBy p found), access-open .high)
+
+    pub access-answers : _≡_ {A = Answer} (record { status = 0; name = c .name; symbol = place .mark; depth = place .blocks; value = 0 }) (answerOf p c)
+    unfolding rows
     access-answers =
         sym
-        (accepted-answer p c (a .sound) (a .status)
-        ∙ ap (accepted c) (access-effect _ _ c is)
-        ∙ ap (λ (part : Part Tree). accepted c (accesses trees (unpromised (meaning p)) part c)) (access-open .part)
+        (open-answer p c found a access-open accessCode is
         ∙ rw (answer .mark, answer .depth))
 
 -- Rank.
-module _ (p : List ℕ) (c : Command) (a : Accepted p c) (is : c .code ≡ rankCode) where
+module _ (p : List ℕ) (c : Command) (found : Record) (a : Accepted p c found) (is : c .code ≡ rankCode) where
   rank-allowed : RankAccepted trees (partOf (meaning p) (c .name)) c
   rank-allowed = rank-accepted trees (unpromised (meaning p)) (partOf (meaning p) (c .name)) c is (a .status)
 
-  rank-open : ToOpen p c
-  rank-open = accepted-open p c (a .sound) (a .status) (λ (e : c .code ≡ unpromisedCode). omega arith) (rank-allowed .is-open)
+  rank-open : ToOpen p c found
+  rank-open =
+      accepted-open p c (a .sound) (a .status) (λ (e : c .code ≡ unpromisedCode). omega arith) (rank-allowed .is-open) found (a .read)
 
-  pub rank-ready : ((c .name < names) × OpenName p (c .name)) × ((c .symbol < mostAlphabet) × (c .number ≤ length (marksT (treeOf p (c .name)))))
-  rank-ready = (
-    (rank-open .low, rank-open .opened),
-    (
-      omega (arith, rank-allowed .symbol, ap alphabetOf (rank-open .part), rank-open .opened .alphabetMost),
-      omega (arith, rank-allowed .high, ap (λ (part : Part Tree). length (marksOf trees part)) (rank-open .part)),
-    ),
-  )
+  pub rank-record : OpenRecord p found
+  rank-record = rank-open .asked
 
-  module _ (r : ℕ) (ranked : r ≡ rank (c .symbol) (marksT (treeOf p (c .name))) (c .number)) where
+  pub rank-symbol : c .symbol < mostAlphabet
+  rank-symbol = omega (arith, rank-allowed .symbol, ap alphabetOf (rank-open .part), rank-open .most)
+
+  pub rank-last : c .number ≤ length (marksT (treeBy p found))
+  rank-last = omega (arith, rank-allowed .high, ap (λ (part : Part Tree). length (marksOf trees part)) (rank-open .part))
+
+  module _ (r : ℕ) (ranked : r ≡ rank (c .symbol) (marksT (treeBy p found)) (c .number)) where
     pub rank-fits : r < 2 ^ 32
-    rank-fits =
-        omega (
-          arith,
-          ranked,
-          rank-le-place (c .symbol) (marksT (treeOf p (c .name))) (c .number),
-          rank-ready .1 .1,
-          marks-few p (c .name) (a .sound) (rank-open .low) (rank-open .opened),
-        )
+    rank-fits = omega (arith, ranked, rank-le-place (c .symbol) (marksT (treeBy p found)) (c .number), rank-last, rank-open .few)
 
     pub rank-answers : (answer : Answer) → answer ≡ valueTo c r → answer ≡ answerOf p c
+    unfolding rows
     rank-answers answer told =
         told
         ∙ ap (valueTo c) ranked
         ∙ sym
-        (accepted-answer p c (a .sound) (a .status)
-        ∙ ap (accepted c) (rank-effect _ _ c is)
-        ∙ ap (λ (part : Part Tree). accepted c (ranks trees (unpromised (meaning p)) part c)) (rank-open .part))
+        (open-answer p c found a rank-open rankCode is)
 
 -- Select.
-module _ (p : List ℕ) (c : Command) (a : Accepted p c) (is : c .code ≡ selectCode) where
+module _ (p : List ℕ) (c : Command) (found : Record) (a : Accepted p c found) (is : c .code ≡ selectCode) where
   select-allowed : SelectAccepted trees (partOf (meaning p) (c .name)) c
   select-allowed = select-accepted trees (unpromised (meaning p)) (partOf (meaning p) (c .name)) c is (a .status)
 
-  select-open : ToOpen p c
-  select-open = accepted-open p c (a .sound) (a .status) (λ (e : c .code ≡ unpromisedCode). omega arith) (select-allowed .is-open)
+  select-open : ToOpen p c found
+  select-open =
+      accepted-open p c (a .sound) (a .status) (λ (e : c .code ≡ unpromisedCode). omega arith) (select-allowed .is-open) found (a .read)
 
-  pub select-ready : ((c .name < names) × OpenName p (c .name))
-      × ((c .symbol < mostAlphabet) × (1 ≤ c .number) × (c .number ≤ count (c .symbol) (marksT (treeOf p (c .name)))))
-  select-ready = (
-    (select-open .low, select-open .opened),
-    (
-      omega (arith, select-allowed .symbol, ap alphabetOf (select-open .part), select-open .opened .alphabetMost),
-      select-allowed .low,
-      omega (arith, select-allowed .high, ap (λ (part : Part Tree). count (c .symbol) (marksOf trees part)) (select-open .part)),
-    ),
-  )
+  pub select-record : OpenRecord p found
+  select-record = select-open .asked
 
-  module _ (r : ℕ) (selected : r ≡ select (c .symbol) (marksT (treeOf p (c .name))) (c .number)) where
+  pub select-symbol : c .symbol < mostAlphabet
+  select-symbol = omega (arith, select-allowed .symbol, ap alphabetOf (select-open .part), select-open .most)
+
+  pub select-first : 1 ≤ c .number
+  select-first = select-allowed .low
+
+  pub select-last : c .number ≤ count (c .symbol) (marksT (treeBy p found))
+  select-last = omega (arith, select-allowed .high, ap (λ (part : Part Tree). count (c .symbol) (marksOf trees part)) (select-open .part))
+
+  module _ (r : ℕ) (selected : r ≡ select (c .symbol) (marksT (treeBy p found)) (c .number)) where
     pub select-fits : r < 2 ^ 32
-    select-fits =
-        omega (
-          arith,
-          selected,
-          select-le-length (c .symbol) (marksT (treeOf p (c .name))) (c .number),
-          marks-few p (c .name) (a .sound) (select-open .low) (select-open .opened),
-        )
+    select-fits = omega (arith, selected, select-le-length (c .symbol) (marksT (treeBy p found)) (c .number), select-open .few)
 
     pub select-answers : (answer : Answer) → answer ≡ valueTo c r → answer ≡ answerOf p c
+    unfolding rows
     select-answers answer told =
         told
         ∙ ap (valueTo c) selected
         ∙ sym
-        (accepted-answer p c (a .sound) (a .status)
-        ∙ ap (accepted c) (select-effect _ _ c is)
-        ∙ ap (λ (part : Part Tree). accepted c (selects trees (unpromised (meaning p)) part c)) (select-open .part))
+        (open-answer p c found a select-open selectCode is)
 
--- Length.
-module _ (p : List ℕ) (c : Command) (a : Accepted p c) (is : c .code ≡ lengthCode) where
-  length-open : ToOpen p c
-  length-open =
-      accepted-open p c (a .sound) (a .status) (λ (e : c .code ≡ unpromisedCode). omega arith)
-      (length-accepted trees (unpromised (meaning p)) (partOf (meaning p) (c .name)) c is (a .status))
-
-  pub length-ready : (c .name < names) × (directorySize ≤ length p)
-  length-ready = (length-open .low, omega (arith, a .sound .allowed .shortest))
-
-  pub length-answers : (found : Record) (answer : Answer) → found ≡ recordOf p (c .name) → answer ≡ valueTo c (found .length) → answer ≡ answerOf p c
-  length-answers found answer read told =
-      told
-      ∙ ap (valueTo c) (ap (λ (r : Record). r .length) read ∙ length-open .opened .length)
-      ∙ sym
-      (accepted-answer p c (a .sound) (a .status)
-      ∙ ap (accepted c) (length-effect _ _ c is)
-      ∙ ap (λ (part : Part Tree). accepted c (tells trees (unpromised (meaning p)) part c)) (length-open .part))
-
--- Unpromised shares.
-module _ (p : List ℕ) (c : Command) (a : Accepted p c) where
-  -- the last code
-  pub last-code : accessCode ≤ c .code → (c .code ≡ accessCode → ⊥) → (c .code ≡ rankCode → ⊥) → (c .code ≡ selectCode → ⊥) → (c .code ≡ lengthCode → ⊥)
-      → c .code ≡ unpromisedCode
-  last-code late no-access no-rank no-select no-length =
+-- Length, the last code that names a name.
+module _ (p : List ℕ) (c : Command) (found : Record) (a : Accepted p c found) where
+  last-code : accessCode ≤ c .code → (c .code ≡ unpromisedCode → ⊥) → (c .code ≡ accessCode → ⊥) → (c .code ≡ rankCode → ⊥) → (c .code ≡ selectCode → ⊥)
+      → c .code ≡ lengthCode
+  last-code late named no-access no-rank no-select =
       omega (
         arith,
         listed-within (c .code) (code-is-listed trees (unpromised (meaning p)) (partOf (meaning p) (c .name)) c (a .status)) .1,
       )
 
-  pub unpromised-answers : c .code ≡ unpromisedCode → (free : ℕ) (answer : Answer) → free ≡ unpromisedShares p → answer ≡ valueTo c free
-      → answer ≡ answerOf p c
-  unpromised-answers is free answer read told =
+  length-is : c .code ≡ lengthCode → (answer : Answer) → answer ≡ valueTo c (found .length) → answer ≡ answerOf p c
+  unfolding rows
+  length-is is answer told =
+      let named : ToOpen p c found =
+      accepted-open p c (a .sound) (a .status) (λ (e : c .code ≡ unpromisedCode). omega arith)
+      (length-accepted trees (unpromised (meaning p)) (partOf (meaning p) (c .name)) c is (a .status)) found (a .read) in
       told
-      ∙ ap (valueTo c) (read ∙ sym (unpromised-meaning p (a .sound)))
-      ∙ sym (accepted-answer p c (a .sound) (a .status) ∙ ap (accepted c) (unpromised-effect _ _ c is))
+      ∙ ap (valueTo c) (named .long)
+      ∙ sym
+      (open-answer p c found a named lengthCode is)
+
+  pub length-answers : accessCode ≤ c .code → (c .code ≡ unpromisedCode → ⊥) → (c .code ≡ accessCode → ⊥) → (c .code ≡ rankCode → ⊥)
+      → (c .code ≡ selectCode → ⊥)
+      → (answer : Answer) → answer ≡ valueTo c (found .length)
+      → answer ≡ answerOf p c
+  length-answers late named no-access no-rank no-select = length-is (last-code late named no-access no-rank no-select)
+
+-- Unpromised shares.
+module _ (p : List ℕ) (c : Command) (sound : Sound p) (formed : WellFormed c) (is : c .code ≡ unpromisedCode) where
+  pub unpromised-answers : (free : ℕ) (answer : Answer) → free ≡ unpromisedShares p → answer ≡ valueTo c free → answer ≡ answerOf p c
+  unfolding rows
+  unpromised-answers free answer read told =
+      let status : statusIn p c ≡ 0 = sym (unpromised-passes p c formed is) in
+      told
+      ∙ ap (valueTo c) (read ∙ sym (unpromised-meaning p sound))
+      ∙ sym (accepted-answer p c sound status ∙ ap (accepted c) (coded-effect _ _ c unpromisedCode is))

@@ -1,90 +1,70 @@
 // The commands that look at a pool and change nothing, where no test refused them.
+ghost use mathlib.Core.Logic.{_≢_};
 ghost use mathlib.Core.Path.{_≡_};
 ghost use Prim.Native.Nat.{_≤_};
-ghost use Rattle.protocol.specs.Commands.{accessCode, rankCode, selectCode, lengthCode, unpromisedCode};
-ghost use Rattle.frame_queries.specs.Accepted.{Accepted, answerOf, valueTo};
+ghost use Rattle.pool.specs.Sound.{Sound};
+ghost use Rattle.protocol.specs.Commands.{accessCode, rankCode, selectCode, unpromisedCode};
+ghost use Rattle.frame_status.specs.Statuses.{WellFormed};
+ghost use Rattle.frame_queries.specs.Accepted.{Accepted, answerOf};
 use frame_status::unpromised;
-use pool::read_record;
+use geometry::Record;
 use protocol::Answer;
 use protocol::Command;
 use tree_query::access;
 use tree_query::rank;
 use tree_query::select;
 
-// The answer to a query.
-pub fn ask(pool: &[u8], c: Command) -> Answer
-    requires { ⌜ Accepted (now pool) c × (accessCode ≤ c .code) ⌝ }
+// The answer to a query of a name, whose record was read.
+pub fn ask(pool: &[u8], c: Command, found: Record) -> Answer
+    requires { ⌜ Accepted (now pool) c found × (accessCode ≤ c .code) × (c .code ≢ unpromisedCode) ⌝ }
     ensures { λ r. ⌜ r ≡ answerOf (now (pool .entry)) c ⌝ }
 {
     if c.code == Command::ACCESS {
-        return answer_access(pool, c);
+        return answer_access(pool, c, found);
     }
     if c.code == Command::RANK {
-        return answer_rank(pool, c);
+        return answer_rank(pool, c, found);
     }
     if c.code == Command::SELECT {
-        return answer_select(pool, c);
+        return answer_select(pool, c, found);
     }
-    if c.code == Command::LENGTH {
-        return answer_length(pool, c);
-    }
-    answer_unpromised(pool, c)
+    Answer::with_value(c, found.length as u32)
 }
 
-// The answer of a command that tells a value alone.
-pub fn with_value(c: Command, value: u32) -> Answer
-    ensures { λ r. ⌜ r ≡ valueTo c value ⌝ }
-{
-    Answer {
-        status: 0,
-        name: c.name,
-        symbol: 0,
-        depth: 0,
-        value,
-    }
-}
-
-fn answer_access(pool: &[u8], c: Command) -> Answer
-    requires { ⌜ Accepted (now pool) c × (c .code ≡ accessCode) ⌝ }
+fn answer_access(pool: &[u8], c: Command, found: Record) -> Answer
+    requires { ⌜ Accepted (now pool) c found × (c .code ≡ accessCode) ⌝ }
     ensures { λ r. ⌜ r ≡ answerOf (now (pool .entry)) c ⌝ }
 {
-    let found = access(pool, c.name as usize, c.number as usize);
+    let place = access(pool, found, c.number as usize);
     Answer {
         status: 0,
         name: c.name,
-        symbol: found.mark,
-        depth: found.blocks as u8,
+        symbol: place.mark,
+        depth: place.blocks as u8,
         value: 0,
     }
 }
 
-fn answer_rank(pool: &[u8], c: Command) -> Answer
-    requires { ⌜ Accepted (now pool) c × (c .code ≡ rankCode) ⌝ }
+fn answer_rank(pool: &[u8], c: Command, found: Record) -> Answer
+    requires { ⌜ Accepted (now pool) c found × (c .code ≡ rankCode) ⌝ }
     ensures { λ r. ⌜ r ≡ answerOf (now (pool .entry)) c ⌝ }
 {
-    let many = rank(pool, c.name as usize, c.symbol, c.number as usize);
-    with_value(c, many as u32)
+    let many = rank(pool, found, c.symbol, c.number as usize);
+    Answer::with_value(c, many as u32)
 }
 
-fn answer_select(pool: &[u8], c: Command) -> Answer
-    requires { ⌜ Accepted (now pool) c × (c .code ≡ selectCode) ⌝ }
+fn answer_select(pool: &[u8], c: Command, found: Record) -> Answer
+    requires { ⌜ Accepted (now pool) c found × (c .code ≡ selectCode) ⌝ }
     ensures { λ r. ⌜ r ≡ answerOf (now (pool .entry)) c ⌝ }
 {
-    let place = select(pool, c.name as usize, c.symbol, c.number as usize);
-    with_value(c, place as u32)
+    let place = select(pool, found, c.symbol, c.number as usize);
+    Answer::with_value(c, place as u32)
 }
 
-fn answer_length(pool: &[u8], c: Command) -> Answer
-    requires { ⌜ Accepted (now pool) c × (c .code ≡ lengthCode) ⌝ }
+// The answer to the query that names no name.
+pub fn ask_unpromised(pool: &[u8], c: Command) -> Answer
+    requires { ⌜ Sound (now pool) × WellFormed c × (c .code ≡ unpromisedCode) ⌝ }
     ensures { λ r. ⌜ r ≡ answerOf (now (pool .entry)) c ⌝ }
 {
-    let found = read_record(pool, c.name as usize);
-    with_value(c, found.length as u32)
-}
-
-fn answer_unpromised(pool: &[u8], c: Command) -> Answer
-    requires { ⌜ Accepted (now pool) c × (c .code ≡ unpromisedCode) ⌝ }
-    ensures { λ r. ⌜ r ≡ answerOf (now (pool .entry)) c ⌝ }
-{
-    with_value(c, unpromised(pool) as u32)
+    Answer::with_value(c, unpromised(pool) as u32)
 }

@@ -4,6 +4,7 @@ use mathlib.Core.List.{List}
 use mathlib.Core.Logic.{_≢_}
 use mathlib.Core.Path.{_≡_, refl, sym, _∙_}
 use Prim.Native.Nat.{ℕ, _<_}
+use native.Mathlib.Omega.{arith}
 use borrow.Author.Tests.{eq-eqb, ne-eqb, ltb-true}
 use lib.Dec.{eqb, ltb}
 use lib.ListN.{drop}
@@ -14,7 +15,7 @@ use Rattle.protocol.specs.Refusals.{refusals, firstOf, statusOf, listed, isName
 use Rattle.protocol.specs.State.{Part}
 use Rattle.protocol.specs.declared.Command.{Command}
 use Rattle.shape.specs.Trees.{Tree}
-use Rattle.frame_status.specs.Statuses.{statusIn, WellFormed}
+use Rattle.frame_status.specs.Statuses.{statusIn, WellFormed, FormStatus}
 
 -- a field that isn't used may hold zero alone
 pub unused-decides : (uses zero : Bool) → uses ≡ false → zero ≡ (uses || zero)
@@ -53,12 +54,6 @@ module _ (c : Command) where
   pub is-listed : (k : Bool) → k ≡ listed trees (c .code) → k ≡ true → listed trees (c .code) ≡ true
   is-listed k is known = sym is ∙ known
 
-  -- a well-formed command
-  pub well-formed : (k n u : Bool) → k ≡ listed trees (c .code) → k ≡ true → n ≡ isNameAllowed c → n ≡ true → u ≡ isUnusedZero trees c → u ≡ true
-      → WellFormed c
-  well-formed k n u k-is known n-is allowed u-is zero =
-      record { known = sym k-is ∙ known; name = sym n-is ∙ allowed; unused = sym u-is ∙ zero }
-
   pub name-below : WellFormed c → (c .code ≡ unpromisedCode → ⊥) → c .name < names
   name-below formed other = ltb-true (c .name) names (allowed-name other ∙ formed .name)
 
@@ -79,15 +74,27 @@ module _ (free : ℕ) (part : Part Tree) (c : Command) where
   unfolding statusOf refusals
   later-tests formed = rw (formed .known, formed .name, formed .unused)
 
--- the same by the code's own answers
-module _ (p : List ℕ) (c : Command) where
-  pub refused-unknown : (k : Bool) → k ≡ listed trees (c .code) → k ≡ false → 1 ≡ statusIn p c
-  refused-unknown k k-is unknown = sym (unknown-code _ _ c (sym k-is ∙ unknown))
+-- the status of its form, by the code's own answers
+module _ (c : Command) (k : Bool) (k-is : k ≡ listed trees (c .code)) where
+  -- it is refused on every pool
+  form-refused : (status : ℕ) → status ≢ 0 → ((p : List ℕ) → statusIn p c ≡ status) → FormStatus c status
+  form-refused status some is = record { refused = λ _ p. sym (is p); passed = λ none. absurd (some none) }
 
-  pub refused-name : (k n : Bool) → k ≡ listed trees (c .code) → k ≡ true → n ≡ isNameAllowed c → n ≡ false → 2 ≡ statusIn p c
-  refused-name k n k-is known n-is refused = sym (name-refused _ _ c (sym k-is ∙ known) (sym n-is ∙ refused))
+  pub form-unknown : k ≡ false → FormStatus c 1
+  form-unknown unknown = form-refused 1 (λ e. absurd (omega arith)) (λ p. unknown-code _ _ c (sym k-is ∙ unknown))
 
-  pub refused-unused : (k n u : Bool) → k ≡ listed trees (c .code) → k ≡ true → n ≡ isNameAllowed c → n ≡ true → u ≡ isUnusedZero trees c → u ≡ false
-      → 3 ≡ statusIn p c
-  refused-unused k n u k-is known n-is allowed u-is refused =
-      sym (unused-refused _ _ c (sym k-is ∙ known) (sym n-is ∙ allowed) (sym u-is ∙ refused))
+  module _ (known : k ≡ true) (n : Bool) (n-is : n ≡ isNameAllowed c) where
+    pub form-name : n ≡ false → FormStatus c 2
+    form-name refused = form-refused 2 (λ e. absurd (omega arith)) (λ p. name-refused _ _ c (sym k-is ∙ known) (sym n-is ∙ refused))
+
+    module _ (allowed : n ≡ true) (u : Bool) (u-is : u ≡ isUnusedZero trees c) where
+      pub form-unused : u ≡ false → FormStatus c 3
+      form-unused refused =
+          form-refused 3 (λ e. absurd (omega arith)) (λ p. unused-refused _ _ c (sym k-is ∙ known) (sym n-is ∙ allowed) (sym u-is ∙ refused))
+
+      pub form-passed : u ≡ true → FormStatus c 0
+      form-passed zero =
+          record {
+            refused = λ some. absurd (some refl);
+            passed = λ _. record { known = sym k-is ∙ known; name = sym n-is ∙ allowed; unused = sym u-is ∙ zero };
+          }

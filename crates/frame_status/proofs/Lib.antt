@@ -2,4 +2,4 @@ pub mod Codes
 pub mod Parts
 pub mod Forms
 pub mod Tests
-pub mod Refused
+pub mod Statuses

@@ -9,7 +9,7 @@ use lib.Dec.{eqb, leb, ltb}
 use lib.ListN.{length}
 use Rattle.geometry.specs.Limits.{leastAlphabet, mostAlphabet, marksPerShare}
 use Rattle.machine.specs.Machine.{trees}
-use Rattle.protocol.proofs.Rows.{withCode}
+use Rattle.protocol.proofs.Commands.{withCode}
 use Rattle.protocol.specs.Commands.{
   openCode,
   closeCode,

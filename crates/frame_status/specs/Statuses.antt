@@ -3,12 +3,13 @@ use mathlib.Core.Bool.{true}
 use mathlib.Core.List.{List}
 use mathlib.Core.Logic.{_≢_}
 use mathlib.Core.Path.{_≡_}
-use Prim.Native.Nat.{ℕ, _<_}
-use Rattle.geometry.specs.Limits.{names}
+use Prim.Native.Nat.{ℕ}
+use Rattle.geometry.specs.declared.Record.{Record}
 use Rattle.machine.specs.Machine.{trees}
 use Rattle.pool.specs.Meaning.{meaning}
+use Rattle.pool.specs.Names.{recordOf}
 use Rattle.pool.specs.Sound.{OpenName, Sound}
-use Rattle.protocol.specs.Commands.{openCode, unpromisedCode}
+use Rattle.protocol.specs.Commands.{unpromisedCode}
 use Rattle.protocol.specs.Refusals.{statusOf, listed, isNameAllowed, isUnusedZero}
 use Rattle.protocol.specs.State.{partOf, unpromised}
 use Rattle.protocol.specs.declared.Command.{Command}
@@ -23,22 +24,23 @@ pub record WellFormed (c : Command) : Type 0 where
   pub name : isNameAllowed c ≡ true
   pub unused : isUnusedZero trees c ≡ true
 
--- an opening that these statuses don't refuse
-pub record Opening (p : List ℕ) (c : Command) : Type 0 where
-  pub sound : Sound p
-  pub formed : WellFormed c
-  pub code : c .code ≡ openCode
+-- the status that the command's form alone decides: on every pool the same, or 0, and the command is well formed
+pub record FormStatus (c : Command) (status : ℕ) : Type 0 where
+  pub refused : status ≢ 0 → (p : List ℕ) → status ≡ statusIn p c
+  pub passed : status ≡ 0 → WellFormed c
 
--- a command to a name that must be open, which they don't refuse
-pub record Naming (p : List ℕ) (c : Command) : Type 0 where
+-- a well-formed command that names a name, and the name's record
+pub record Naming (p : List ℕ) (c : Command) (found : Record) : Type 0 where
   pub sound : Sound p
   pub formed : WellFormed c
-  pub noOpening : c .code ≢ openCode
   pub named : c .code ≢ unpromisedCode
+  pub read : found ≡ recordOf p (c .name)
 
--- a command to an open name, which they don't refuse
-pub record Asking (p : List ℕ) (c : Command) : Type 0 where
-  pub sound : Sound p
-  pub formed : WellFormed c
-  pub low : c .name < names
+-- the same where the name is open
+pub record Asking (p : List ℕ) (c : Command) (found : Record) : Type 0 where
+  pub naming : Naming p c found
   pub opened : OpenName p (c .name)
+
+-- the status of a command to an open name with this record, on every pool the same
+abbrev pub StatusBy : Command → Record → ℕ → Type 0
+StatusBy c found status = (p : List ℕ) → Asking p c found → status ≡ statusIn p c

@@ -1,13 +1,9 @@
 // The status of a command on a sound pool: the tests of RULES, Statuses in their order, and 0 where none applies.
 ghost use mathlib.Core.Path.{_≡_};
-ghost use Rattle.pool.specs.Sound.{Sound};
-ghost use Rattle.frame_status.specs.Statuses.{statusIn};
+ghost use Rattle.frame_status.specs.Statuses.{statusIn, Naming};
 use crate::named::named_status;
 use crate::openings::opening_status;
-use crate::well_formed::is_known;
-use crate::well_formed::is_name_allowed;
-use crate::well_formed::is_unused_zero;
-use protocol::Answer;
+use geometry::Record;
 use protocol::Command;
 
 mod named;
@@ -15,26 +11,15 @@ mod openings;
 mod well_formed;
 
 pub use openings::unpromised;
+pub use well_formed::form_status;
 
-// The status of a command.
-pub fn status_of(pool: &[u8], c: Command) -> u8
-    requires { ⌜ Sound (now pool) ⌝ }
+// The status of a well-formed command to a name, whose record was read.
+pub fn status_of(pool: &[u8], c: Command, found: Record) -> u8
+    requires { ⌜ Naming (now pool) c found ⌝ }
     ensures { λ r. ⌜ r ≡ statusIn (now (pool .entry)) c ⌝ }
 {
-    if !is_known(c.code) {
-        return Answer::UNKNOWN_CODE;
-    }
-    if !is_name_allowed(c) {
-        return Answer::NAME_NOT_ALLOWED;
-    }
-    if !is_unused_zero(c) {
-        return Answer::UNUSED_NOT_ZERO;
-    }
-    if c.code == Command::UNPROMISED {
-        return 0;
-    }
     if c.code == Command::OPEN {
-        return opening_status(pool, c);
+        return opening_status(pool, c, found);
     }
-    named_status(pool, c)
+    named_status(pool, c, found)
 }

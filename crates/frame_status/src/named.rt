@@ -1,39 +1,37 @@
 // The status of a command to a name that must be open.
 ghost use mathlib.Core.Bool.{_&&_};
-ghost use mathlib.Core.Logic.{_⊎_};
+ghost use mathlib.Core.Logic.{_⊎_, _≢_};
 ghost use mathlib.Core.Path.{_≡_};
 ghost use lib.Dec.{leb};
-ghost use Rattle.protocol.specs.Commands.{insertCode, deleteCode, accessCode, rankCode, selectCode};
-ghost use Rattle.frame_status.specs.Statuses.{statusIn, Naming, Asking};
-use crate::openings::is_open;
+ghost use Rattle.protocol.specs.Commands.{openCode, insertCode, deleteCode, accessCode, rankCode, selectCode};
+ghost use Rattle.frame_status.specs.Statuses.{statusIn, Naming, Asking, StatusBy};
 use geometry::Record;
-use pool::read_record;
 use protocol::Answer;
 use protocol::Command;
 use tree_query::count;
 
 // The status of a command to a name that must be open.
-pub fn named_status(pool: &[u8], c: Command) -> u8
-    requires { ⌜ Naming (now pool) c ⌝ }
+pub fn named_status(pool: &[u8], c: Command, found: Record) -> u8
+    requires { ⌜ Naming (now pool) c found × (c .code ≢ openCode) ⌝ }
     ensures { λ r. ⌜ r ≡ statusIn (now (pool .entry)) c ⌝ }
 {
-    if !is_open(pool, c.name as usize) {
+    if found.kind == Record::KIND_CLOSED {
         return Answer::NOT_OPEN;
     }
     if c.code == Command::INSERT {
-        return insertion_status(pool, c);
+        return insertion_status(c, found);
     }
     if c.code == Command::RANK {
-        return rank_status(pool, c);
+        return rank_status(c, found);
     }
     if c.code == Command::SELECT {
-        return selection_status(pool, c);
+        return selection_status(pool, c, found);
     }
     if c.code == Command::DELETE {
-        return place_status(pool, c);
+        return place_status(c, found);
     }
     if c.code == Command::ACCESS {
-        return place_status(pool, c);
+        return place_status(c, found);
     }
     0
 }
@@ -49,11 +47,10 @@ fn is_place(number: u32, first: u32, last: u32) -> bool
 }
 
 // The status of an insert into an open name.
-fn insertion_status(pool: &[u8], c: Command) -> u8
-    requires { ⌜ Asking (now pool) c × (c .code ≡ insertCode) ⌝ }
-    ensures { λ r. ⌜ r ≡ statusIn (now (pool .entry)) c ⌝ }
+fn insertion_status(c: Command, found: Record) -> u8
+    requires { ⌜ c .code ≡ insertCode ⌝ }
+    ensures { λ r. ⌜ StatusBy c found r ⌝ }
 {
-    let found = read_record(pool, c.name as usize);
     if c.symbol >= found.alphabet {
         return Answer::SYMBOL_OUTSIDE;
     }
@@ -67,11 +64,10 @@ fn insertion_status(pool: &[u8], c: Command) -> u8
 }
 
 // The status of a delete from an open name, or of an access.
-fn place_status(pool: &[u8], c: Command) -> u8
-    requires { ⌜ Asking (now pool) c × ((c .code ≡ deleteCode) ⊎ (c .code ≡ accessCode)) ⌝ }
-    ensures { λ r. ⌜ r ≡ statusIn (now (pool .entry)) c ⌝ }
+fn place_status(c: Command, found: Record) -> u8
+    requires { ⌜ (c .code ≡ deleteCode) ⊎ (c .code ≡ accessCode) ⌝ }
+    ensures { λ r. ⌜ StatusBy c found r ⌝ }
 {
-    let found = read_record(pool, c.name as usize);
     if !is_place(c.number, 1, found.length as u32) {
         return Answer::PLACE_OUTSIDE;
     }
@@ -79,11 +75,10 @@ fn place_status(pool: &[u8], c: Command) -> u8
 }
 
 // The status of a rank in an open name.
-fn rank_status(pool: &[u8], c: Command) -> u8
-    requires { ⌜ Asking (now pool) c × (c .code ≡ rankCode) ⌝ }
-    ensures { λ r. ⌜ r ≡ statusIn (now (pool .entry)) c ⌝ }
+fn rank_status(c: Command, found: Record) -> u8
+    requires { ⌜ c .code ≡ rankCode ⌝ }
+    ensures { λ r. ⌜ StatusBy c found r ⌝ }
 {
-    let found = read_record(pool, c.name as usize);
     if c.symbol >= found.alphabet {
         return Answer::SYMBOL_OUTSIDE;
     }
@@ -94,18 +89,17 @@ fn rank_status(pool: &[u8], c: Command) -> u8
 }
 
 // The status of a select in an open name.
-fn selection_status(pool: &[u8], c: Command) -> u8
-    requires { ⌜ Asking (now pool) c × (c .code ≡ selectCode) ⌝ }
+fn selection_status(pool: &[u8], c: Command, found: Record) -> u8
+    requires { ⌜ Asking (now pool) c found × (c .code ≡ selectCode) ⌝ }
     ensures { λ r. ⌜ r ≡ statusIn (now (pool .entry)) c ⌝ }
 {
-    let found = read_record(pool, c.name as usize);
     if c.symbol >= found.alphabet {
         return Answer::SYMBOL_OUTSIDE;
     }
     if c.number == 0 {
         return Answer::ORDINAL_OUTSIDE;
     }
-    if c.number as usize > count(pool, c.name as usize, c.symbol) {
+    if c.number as usize > count(pool, found, c.symbol) {
         return Answer::ORDINAL_OUTSIDE;
     }
     0

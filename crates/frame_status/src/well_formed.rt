@@ -5,14 +5,32 @@ ghost use lib.Dec.{eqb};
 ghost use Rattle.machine.specs.Machine.{trees};
 ghost use Rattle.protocol.specs.Commands.{rows, rowOf};
 ghost use Rattle.protocol.specs.Refusals.{listed, isNameAllowed, isUnusedZero};
+ghost use Rattle.frame_status.specs.Statuses.{FormStatus};
 use geometry::Record;
+use protocol::Answer;
 use protocol::Command;
 
 // The name byte of the command that names none.
 const NO_NAME: u8 = 255;
 
+// The first of the statuses 1 to 3 that applies to a command, and 0 where none does.
+pub fn form_status(c: Command) -> u8
+    ensures { λ r. ⌜ FormStatus c r ⌝ }
+{
+    if !is_known(c.code) {
+        return Answer::UNKNOWN_CODE;
+    }
+    if !is_name_allowed(c) {
+        return Answer::NAME_NOT_ALLOWED;
+    }
+    if !is_unused_zero(c) {
+        return Answer::UNUSED_NOT_ZERO;
+    }
+    0
+}
+
 // Whether the code is in the table of commands.
-pub fn is_known(code: u8) -> bool
+fn is_known(code: u8) -> bool
     ensures { λ r. ⌜ r ≡ listed trees code ⌝ }
 {
     if code < Command::OPEN {
@@ -22,7 +40,7 @@ pub fn is_known(code: u8) -> bool
 }
 
 // Whether the code takes the name byte.
-pub fn is_name_allowed(c: Command) -> bool
+fn is_name_allowed(c: Command) -> bool
     ensures { λ r. ⌜ r ≡ isNameAllowed c ⌝ }
 {
     if c.code == Command::UNPROMISED {
@@ -32,7 +50,7 @@ pub fn is_name_allowed(c: Command) -> bool
 }
 
 // Whether the fourth byte and the fields that the command doesn't use are zero.
-pub fn is_unused_zero(c: Command) -> bool
+fn is_unused_zero(c: Command) -> bool
     requires { ⌜ listed trees (c .code) ≡ true ⌝ }
     ensures { λ r. ⌜ r ≡ isUnusedZero trees c ⌝ }
 {

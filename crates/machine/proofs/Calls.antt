@@ -1,7 +1,7 @@
 -- Commands in one list or cut into several: the same answers and the same state.
 use mathlib.Core.List.{List, [], _∷_, _++_, flatten}
 use mathlib.Core.Path.{refl, sym, ap, _∙_}
-use Rattle.protocol.proofs.Replies.{answers-append, state-after-append}
+use Rattle.protocol.proofs.Respond.{answers-append, state-after-append}
 use Rattle.protocol.specs.Respond.{answersTo, stateAfter}
 use Rattle.protocol.specs.State.{State}
 use Rattle.protocol.specs.declared.Command.{Command}

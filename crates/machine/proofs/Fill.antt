@@ -2,8 +2,8 @@
 use mathlib.Core.List.{List, [], _∷_}
 use Prim.Native.Nat.{ℕ}
 use Rattle.geometry.specs.Limits.{names}
-use Rattle.protocol.proofs.Rows.{by-row}
-use Rattle.protocol.proofs.Validity.{each-after-set, by-status, formatted-is-closed, formatted-is-valid, commands-keep-valid}
+use Rattle.protocol.proofs.Commands.{by-row}
+use Rattle.protocol.proofs.Valid.{each-after-set, by-status, formatted-is-closed, formatted-is-valid, commands-keep-valid}
 use Rattle.protocol.specs.Commands.{edited, rows, rowFor}
 use Rattle.protocol.specs.Respond.{reply, respond, stateAfter}
 use Rattle.protocol.specs.State.{Part, State, closed, opened, freshState, partOf, unpromised}
@@ -15,7 +15,7 @@ use Rattle.shape.specs.Fill.{FilledT}
 use Rattle.shape.specs.Sizes.{oneToAByte}
 use Rattle.shape.specs.Trees.{Tree}
 use Rattle.machine.specs.Machine.{trees, FilledPart, FilledState}
-use Rattle.machine.proofs.Image.{trees-are-faithful}
+use Rattle.machine.proofs.Machine.{trees-are-faithful}
 
 edited-keeps-fill : (edit : Tree → Tree) (part : Part Tree) → ((tree : Tree) → FilledT oneToAByte tree → FilledT oneToAByte (edit tree))
     → FilledPart part → FilledPart (edited edit part)

@@ -1,8 +1,8 @@
 -- Theorems that stand for themselves, applied nowhere: one-or-several, fill-stays-after, validity-stays-after,
 -- formatted-is-valid-and-filled, image-on-lists, own-part-only and same-from-formatted.
-pub mod Image
+pub mod Machine
 pub mod Fill
-pub mod Depths
+pub mod Depth
 pub mod OwnParts
 pub mod Runs
 pub mod Calls

@@ -11,9 +11,9 @@ use lib.ListN.{getD, take}
 use Rattle.geometry.specs.Limits.{names}
 use Rattle.protocol.proofs.Accepted.{name-is-below, unpromised-accepted}
 use Rattle.protocol.proofs.Bools.{both}
-use Rattle.protocol.proofs.Replies.{accepted-reply, refused-reply, status-goes-by-part, respond-status, other-parts-stay, own-part-after}
-use Rattle.protocol.proofs.Rows.{by-row}
-use Rattle.protocol.proofs.Statuses.{noRow}
+use Rattle.protocol.proofs.Respond.{accepted-reply, refused-reply, status-goes-by-part, respond-status, other-parts-stay, own-part-after}
+use Rattle.protocol.proofs.Commands.{by-row}
+use Rattle.protocol.proofs.Refusals.{noRow}
 use Rattle.protocol.specs.Commands.{rows, rowFor, openCode, unpromisedCode}
 use Rattle.protocol.specs.Refusals.{Refusal, applies, firstOf, refusals, statusOf}
 use Rattle.protocol.specs.Respond.{Reply, replyOf, reply, respond}

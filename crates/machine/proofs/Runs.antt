@@ -8,7 +8,7 @@ use native.Mathlib.Omega.{arith}
 use borrow.Author.Tests.{eqb-true, eqb-false}
 use lib.ListN.{getD, drop}
 use Rattle.geometry.specs.Limits.{names}
-use Rattle.protocol.proofs.Replies.{reply-status, respond-answer, names-stay, own-part-after}
+use Rattle.protocol.proofs.Respond.{reply-status, respond-answer, names-stay, own-part-after}
 use Rattle.protocol.specs.Commands.{openCode}
 use Rattle.protocol.specs.Frames.{bytesOfAnswer}
 use Rattle.protocol.specs.Respond.{Reply, reply, respond, answersTo, stateAfter}

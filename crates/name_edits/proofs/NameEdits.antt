@@ -28,8 +28,8 @@ use Rattle.tree_delete.specs.Removals.{DeleteReady}
 use Rattle.tree_delete.specs.Trees.{TreeDeleted}
 use Rattle.tree_delete.specs.declared.tree.Removed.{Removed}
 use Rattle.name_edits.specs.Edits.{InsertAt, DeleteAt, InsertedAt, DeletedAt}
-use Rattle.name_edits.specs.Trees.{withTree}
-use Rattle.name_edits.proofs.NewTrees.{blocksBelow, TreeChanged, MarksRecorded, Storable, storable, tree-stored}
+use Rattle.name_edits.specs.Trees.{Storable, withTree}
+use Rattle.name_edits.proofs.NewTrees.{blocksBelow, TreeChanged, MarksRecorded, storable, tree-stored}
 use Rattle.name_edits.proofs.TreesReady.{promise-most, insert-ready, delete-ready}
 
 -- An insert.

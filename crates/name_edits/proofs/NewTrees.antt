@@ -7,7 +7,7 @@ use Prim.Native.Nat.{ℕ, _+_, _*_, _≤_, _<_}
 use native.Mathlib.Omega.{arith}
 use lib.ListN.{length, getD}
 use Rattle.geometry.specs.Layout.{mostHeight}
-use Rattle.geometry.specs.Limits.{directorySize, names, mostAlphabet, marksPerShare}
+use Rattle.geometry.specs.Limits.{mostAlphabet, marksPerShare}
 use Rattle.geometry.specs.declared.Record.{Record}
 use Rattle.protocol.specs.Commands.{edited}
 use Rattle.protocol.specs.State.{Part, opened}
@@ -38,7 +38,7 @@ use Rattle.tree_insert.proofs.Outcomes.{sound-narrower}
 use Rattle.name_open_close.proofs.ExactMaps.{Turns, own-or-free-in}
 use Rattle.name_open_close.proofs.NameChanges.{others-untouched, header-kept, pool-long, updated}
 use Rattle.name_open_close.specs.Updates.{NameIn, Updated}
-use Rattle.name_edits.specs.Trees.{withTree}
+use Rattle.name_edits.specs.Trees.{Storable, withTree}
 use Rattle.name_edits.proofs.TreesReady.{promise-most}
 
 -- the blocks that a name's record leads to
@@ -61,10 +61,6 @@ pub record MarksRecorded (r : Record) (t : Tree) (marks : ℕ) : Type 0 where
   pub many : marks ≡ length (marksT t)
   pub room : marks ≤ marksPerShare * r .q
 
--- a record can be written that says this root
-abbrev pub Storable : List ℕ → ℕ → ℕ → ℕ → Type 0
-Storable q name level root = (name < names) × (directorySize ≤ length q) × (level ≤ mostHeight) × (root < wordLimit)
-
 module _ (p q m n : List ℕ) (name : ℕ) (within : NameIn p m name) (old : OpenName p name)
     (t : Tree) (level root marks : ℕ) (changed : TreeChanged name t level root p q m n) (fit : MarksRecorded (recordOf p name) t marks) where
   new-marks : marks ≡ marksIn level (shapeAt q level root)
@@ -80,7 +76,7 @@ module _ (p q m n : List ℕ) (name : ℕ) (within : NameIn p m name) (old : Ope
   pub storable : Storable q name level root
   storable =
       let root-low : root < wordLimit = omega (arith, changed .block .inside, changed .only .long, within .sound .allowed .longest) in
-      (within .low, omega (arith, changed .only .long, within .sound .allowed .shortest), new-height, root-low)
+      record { low = within .low; long = omega (arith, changed .only .long, within .sound .allowed .shortest); height = new-height; block = root-low }
 
   new-below : SoundBelow q (recordOf p name .alphabet) level root
   new-below =

@@ -17,8 +17,8 @@ use Rattle.text_hex.specs.Lines.{lineOf, lineSize, digitsOfFrame}
 use Rattle.text_hex.specs.declared.read.Reading.{Reading}
 use Rattle.text_hex.specs.declared.read.Reading.the-variants.{Frame, Bad}
 use Rattle.text_hex.proofs.Written.{length-of-line}
-use Rattle.protocol.specs.Frames.{commandOf}
-use Rattle.protocol.specs.declared.Command.{Command}
+use Rattle.protocol.specs.Frames.{answerOfBytes}
+use Rattle.protocol.specs.declared.Answer.{Answer}
 use Rattle.shape.specs.Nested.{joined}
 use Rattle.program_batches.specs.Answers.{badAnswer, lineOfAnswer, lineOfBytes}
 use Rattle.program_batches.specs.Batch.{draftOf, keptByte, keptIn, completed, PutsAnswer, Completes}
@@ -54,18 +54,18 @@ kept-in-drafts (Bad ∷ rs) rest =
 length-of-bytes : (bytes : List ℕ) → length (lineOfBytes bytes) ≡ lineSize
 unfolding lineOfBytes
 length-of-bytes bytes =
-    length-of-line (commandOf bytes .code) (commandOf bytes .name) (commandOf bytes .symbol) (commandOf bytes .fourth) (commandOf bytes .number)
+    length-of-line (answerOfBytes bytes .status) (answerOfBytes bytes .name) (answerOfBytes bytes .symbol) (answerOfBytes bytes .depth) (answerOfBytes bytes .value)
 
 -- an answer was read and put at a place that was kept
-pub answer-put : (at used : ℕ) (out out' answers : List ℕ) (answer : Command) → getD out at 0 ≡ keptByte → answer ≡ commandOf (take frameSize (drop used answers))
-    → out' ≡ paste out at (lineOf (answer .code) (answer .name) (answer .symbol) (answer .fourth) (answer .number)) lineSize
+pub answer-put : (at used : ℕ) (out out' answers : List ℕ) (answer : Answer) → getD out at 0 ≡ keptByte → answer ≡ answerOfBytes (take frameSize (drop used answers))
+    → out' ≡ paste out at (lineOfAnswer answer) lineSize
     → PutsAnswer at used out out' answers (used + frameSize)
 unfolding lineOfBytes
 answer-put at used out out' answers answer kept is put =
     record {
       kept =
           λ _.
-          (refl, put ∙ ap (λ (c : Command). paste out at (lineOf (c .code) (c .name) (c .symbol) (c .fourth) (c .number)) lineSize) is);
+          (refl, put ∙ ap (λ (a : Answer). paste out at (lineOfAnswer a) lineSize) is);
       other = λ other. absurd (other kept);
     }
 

@@ -6,9 +6,9 @@ use native.Mathlib.Omega.{arith}
 use Rattle.text_hex.specs.Digits.{digitsOf}
 use Rattle.text_hex.specs.Lines.{lineOf, digitsOfFrame}
 use Rattle.text_hex.proofs.Numbers.{digits-of-both}
-use Rattle.protocol.specs.Frames.{numberOf, commandOf, bytesOfAnswer}
+use Rattle.protocol.specs.Frames.{numberOf, answerOfBytes, bytesOfAnswer}
 use Rattle.protocol.specs.declared.Answer.{Answer}
-use Rattle.protocol.proofs.Bytes.{number-of-bytes}
+use Rattle.protocol.proofs.Frames.{number-of-bytes}
 use Rattle.program_batches.specs.Answers.{lineOfAnswer, lineOfBytes}
 
 -- eight digits go by the number below 2^32
@@ -29,7 +29,7 @@ four-bytes n =
     rw (a, b, c, d) (number-of-bytes low (omega arith))
 
 pub line-of-bytes : (a : Answer) → lineOfBytes (bytesOfAnswer a) ≡ lineOfAnswer a
-unfolding lineOfBytes bytesOfAnswer commandOf lineOf digitsOfFrame
+unfolding lineOfBytes bytesOfAnswer answerOfBytes lineOf digitsOfFrame
 line-of-bytes a =
     ap (λ digits. (digitsOf 2 (a .status) ++ (digitsOf 2 (a .name) ++ (digitsOf 2 (a .symbol) ++ (digitsOf 2 (a .depth) ++ digits)))) ++ (10 ∷ []))
     (ap (digitsOf 8) (four-bytes (a .value)) ∙ low-digits (a .value))

@@ -17,7 +17,7 @@ use Rattle.text_lines.specs.declared.Gathered.{Gathered}
 use Rattle.text_lines.specs.declared.Gathering.{Gathering}
 use Rattle.text_lines.proofs.Chunks.{rest-is}
 use Rattle.text_lines.proofs.Cut.{ended-append, left-append, ended-plain, left-plain, ended-line, left-line}
-use Rattle.protocol.specs.Frames.{eightBytes, bytesOfAnswer}
+use Rattle.protocol.specs.Frames.{eightBytes, bytesOfCommand}
 use Rattle.shape.specs.Nested.{joined}
 use Rattle.shape.proofs.Folds.{joined-append}
 use Rattle.program_batches.specs.Batch.{draftOf, bytesOf, PutsLine, ReadsLines, ReadsOn, RoomForLine}
@@ -55,9 +55,9 @@ module _ (line : List ℕ) (lines frames : ℕ) (out out' commands commands' : L
   -- a frame has its place and joined the commands
   pub frame-put : (code name symbol fourth number : ℕ) → frameOf line ≡ Frame code name symbol fourth number
       → out' ≡ paste out (lineSize * lines) (lineOf 0 0 0 0 0) lineSize
-      → commands' ≡ paste commands (frameSize * frames) (bytesOfAnswer (record { status = code; name = name; symbol = symbol; depth = fourth; value = number })) frameSize
+      → commands' ≡ paste commands (frameSize * frames) (bytesOfCommand (record { code = code; name = name; symbol = symbol; fourth = fourth; number = number })) frameSize
       → PutsLine line lines frames out out' commands commands' (frames + 1)
-  unfolding bytesOfAnswer
+  unfolding bytesOfCommand
   frame-put code name symbol fourth number is put joins =
       let bytes : List ℕ = eightBytes code name symbol fourth number in
       let same : length commands' ≡ length commands =

@@ -4,7 +4,7 @@ use Prim.Native.Nat.{ℕ}
 use lib.ListN.{getD}
 use Rattle.text_hex.specs.Lines.{numbersOf, lineOf}
 use Rattle.text_hex.specs.declared.read.Reading.the-variants.{Bad}
-use Rattle.protocol.specs.Frames.{commandOf}
+use Rattle.protocol.specs.Frames.{answerOfBytes}
 use Rattle.protocol.specs.declared.Answer.{Answer}
 
 -- the answer that has these numbers
@@ -28,5 +28,4 @@ lineOfAnswer a = lineOf (a .status) (a .name) (a .symbol) (a .depth) (a .value)
 
 -- the line of eight bytes
 unfoldable pub lineOfBytes : List ℕ → List ℕ
-lineOfBytes bytes =
-    lineOf (commandOf bytes .code) (commandOf bytes .name) (commandOf bytes .symbol) (commandOf bytes .fourth) (commandOf bytes .number)
+lineOfBytes bytes = lineOfAnswer (answerOfBytes bytes)

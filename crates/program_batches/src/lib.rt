@@ -112,13 +112,12 @@ fn put_line(line: &[u8], out: &mut [u8], lines: usize, commands: &mut [u8], fram
         return frames;
     };
     write_line(out, at, 0, 0, 0, 0, 0);
-    // a command's eight bytes stand as an answer's do
-    let command = Answer {
-        status: code,
+    let command = Command {
+        code,
         name,
         symbol,
-        depth: fourth,
-        value: number,
+        fourth,
+        number,
     };
     command.encode(commands, Record::FRAME_SIZE * frames);
     frames + 1
@@ -145,15 +144,15 @@ fn put_answer(out: &mut [u8], at: usize, answers: &[u8], used: usize) -> usize
     if out[at] != KEPT {
         return used;
     }
-    let answer = Command::decode(answers, used);
+    let answer = Answer::decode(answers, used);
     write_line(
         out,
         at,
-        answer.code,
+        answer.status,
         answer.name,
         answer.symbol,
-        answer.fourth,
-        answer.number,
+        answer.depth,
+        answer.value,
     );
     used + Record::FRAME_SIZE
 }

@@ -23,7 +23,7 @@ use Rattle.protocol.specs.Frames.{commandOf, eightBytes, bytesOfCommand, bytesO
 use Rattle.protocol.specs.Respond.{respond, answersTo, stateAfter}
 use Rattle.protocol.specs.State.{State}
 use Rattle.protocol.specs.declared.Answer.{Answer}
-use Rattle.protocol.proofs.Bytes.{command-of-bytes, length-of-answer}
+use Rattle.protocol.proofs.Frames.{command-of-bytes, length-of-answer}
 use Rattle.shape.specs.Nested.{joined}
 use Rattle.shape.specs.Trees.{Tree}
 use Rattle.program_sessions.specs.Session.{answersToLines, stateAfterLines}

@@ -7,7 +7,7 @@ use Rattle.text_hex.specs.Lines.{frameOf, spelled, lineOf, digitsOfFrame}
 use Rattle.text_lines.specs.Lines.{trims, trim, ended, left, linesOf}
 use Rattle.machine.specs.Sessions.{input, output}
 use Rattle.protocol.specs.Commands.{rows}
-use Rattle.protocol.specs.Frames.{commandOf}
+use Rattle.protocol.specs.Frames.{answerOfBytes}
 use Rattle.protocol.specs.Refusals.{refusals, statusOf}
 use Rattle.protocol.specs.Respond.{reply, respond}
 use Rattle.sequence.specs.Definition1.{count, access, rank, select, insert}
@@ -19,7 +19,7 @@ use Rattle.program_sessions.specs.Session.{answersToLines, writtenFor, s
 
 -- its input and output, whole
 pub example-session : sessionOf (joined lineOfBytes input) ≡ joined lineOfBytes output
-unfolding sessionOf writtenFor answersToLines linesOf ended left trim trims frameOf spelled valueOf lineOfBytes lineOf digitsOfFrame digitsOf digitOf input output commandOf respond reply statusOf refusals rows count access rank select insert insertT insertNode grown chop halves path
+unfolding sessionOf writtenFor answersToLines linesOf ended left trim trims frameOf spelled valueOf lineOfBytes lineOf digitsOfFrame digitsOf digitOf input output answerOfBytes respond reply statusOf refusals rows count access rank select insert insertT insertNode grown chop halves path
 example-session = refl
 
 pub empty-input : sessionOf [] ≡ []

@@ -20,7 +20,7 @@ use Rattle.text_hex.specs.declared.read.Reading.{Reading}
 use Rattle.call_run.specs.Calls.{Formats, Answered, Ran}
 use Rattle.call_run.specs.Runs.{commandsIn}
 use Rattle.call_tests.specs.declared.Outcome.{Outcome}
-use Rattle.call_run.proofs.Following.{runs-sound, runs-long}
+use Rattle.call_run.proofs.Runs.{runs-sound, runs-long}
 use Rattle.call_run.proofs.Outcomes.{length-cases, all-passed, one-status, room-by-machine, meaning-by-machine}
 use Rattle.text_lines.specs.Lines.{Stands, lineFeed, trims, trim, ended, left, linesOf}
 use Rattle.text_lines.specs.declared.Gathered.{Gathered}

@@ -25,8 +25,8 @@ use Rattle.protocol.specs.Refusals.{NoneApplies, applies, refusals, stat
 use Rattle.protocol.specs.State.{Store, Part, closed, opened, isOpen, alphabetOf, sharesOf, marksOf}
 use Rattle.protocol.specs.declared.Command.{Command}
 use Rattle.protocol.proofs.Bools.{both, neither}
-use Rattle.protocol.proofs.Rows.{withCode}
-use Rattle.protocol.proofs.Statuses.{noRow, none-at, status-is-lowest}
+use Rattle.protocol.proofs.Commands.{withCode}
+use Rattle.protocol.proofs.Refusals.{noRow, none-at, status-is-lowest}
 
 -- a closed name is opened with an allowed alphabet size and some of the unpromised shares
 pub record OpenAccepted {A : Type 0} (free : ℕ) (part : Part A) (c : Command) : Type 0 where

@@ -13,8 +13,8 @@ use Rattle.protocol.specs.State.{Store, Part, State, closed, opened, mar
 use Rattle.protocol.specs.Valid.{Faithful}
 use Rattle.protocol.specs.declared.Command.{Command}
 use Rattle.protocol.proofs.Accepted.{InsertAccepted, PlaceAccepted, insert-accepted, delete-accepted}
-use Rattle.protocol.proofs.Replies.{accepted-reply, refused-reply}
-use Rattle.protocol.proofs.Rows.{columnsOf, columns-of-row, by-pair}
+use Rattle.protocol.proofs.Respond.{accepted-reply, refused-reply}
+use Rattle.protocol.proofs.Commands.{columnsOf, columns-of-row, by-pair}
 
 no-depth-on-lists : (part : Part (List ℕ)) (place : ℕ) → depthOf lists part place ≡ 0
 no-depth-on-lists closed place = refl

@@ -1,11 +1,11 @@
 -- Theorems that stand for themselves, applied nowhere: bytes-of-command, answer-has-name, statuses-are-one-to-twelve and lists-are-faithful.
-pub mod EdgesHold
-pub mod Bytes
+pub mod Edges
+pub mod Frames
 pub mod Bools
 pub mod Order
-pub mod Statuses
-pub mod Rows
-pub mod Replies
+pub mod Refusals
+pub mod Commands
+pub mod Respond
 pub mod Accepted
-pub mod Validity
+pub mod Valid
 pub mod Agreement

@@ -20,6 +20,17 @@ commandOf bytes =
       number = numberOf (getD bytes 4 0) (getD bytes 5 0) (getD bytes 6 0) (getD bytes 7 0);
     }
 
+-- the answer that eight bytes stand for: status, name, symbol, depth, value
+unfoldable pub answerOfBytes : List ℕ → Answer
+answerOfBytes bytes =
+    record {
+      status = getD bytes 0 0;
+      name = getD bytes 1 0;
+      symbol = getD bytes 2 0;
+      depth = getD bytes 3 0;
+      value = numberOf (getD bytes 4 0) (getD bytes 5 0) (getD bytes 6 0) (getD bytes 7 0);
+    }
+
 -- four bytes and the four bytes of a number
 abbrev pub eightBytes : ℕ → ℕ → ℕ → ℕ → ℕ → List ℕ
 eightBytes first second third fourth number =

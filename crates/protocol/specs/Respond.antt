@@ -22,6 +22,10 @@ pub record Response (A : Type 0) : Type 0 where
 abbrev pub accepted : {A : Type 0} → Command → Effect A → Answer
 accepted c e = record { status = 0; name = c .name; symbol = e .symbol; depth = e .depth; value = e .value }
 
+-- the same for one that tells a value alone
+abbrev pub valueTo : Command → ℕ → Answer
+valueTo c value = record { status = 0; name = c .name; symbol = 0; depth = 0; value = value }
+
 -- the answer to a refused command
 abbrev pub refused : ℕ → Command → Answer
 refused status c = record { status = status; name = c .name; symbol = 0; depth = 0; value = 0 }

@@ -25,7 +25,7 @@ impl Command {
     pub const UNPROMISED: u8 = 0x09;
 
     // All of these, so that a contract can say that they are the table's.
-    pub fn codes() -> [u8; 9]
+    fn codes() -> [u8; 9]
         ensures { λ r. ⌜ r ≡ allCodes ⌝ }
     {
         [
@@ -68,7 +68,7 @@ impl Answer {
     pub const SHARES_EXCEEDED: u8 = 12;
 
     // All of these, so that a contract can say that they are the table's.
-    pub fn statuses() -> [u8; 12]
+    fn statuses() -> [u8; 12]
         ensures { λ r. ⌜ r ≡ allStatuses ⌝ }
     {
         [

@@ -12,8 +12,7 @@ use Rattle.geometry.specs.declared.Record.{Record}
 use Rattle.pool.proofs.Summaries.{own-count}
 use Rattle.pool.specs.Blocks.{entries, countBelow}
 use Rattle.pool.specs.Bytes.{shares}
-use Rattle.pool.specs.Names.{recordOf, treeOf}
-use Rattle.pool.specs.Sound.{SoundBlock, SoundBelow, OpenName}
+use Rattle.pool.specs.Sound.{SoundBlock, SoundBelow}
 use Rattle.pool.specs.Trees.{shapeAt, ownCount}
 use Rattle.pool.specs.Words.{wordLimit}
 use Rattle.sequence.proofs.Counts.{count-le-length}
@@ -23,8 +22,8 @@ use Rattle.sequence.specs.Definition1.{count, rank}
 use Rattle.shape.specs.Fill.{rootLeast}
 use Rattle.shape.specs.Nested.{flat, marksIn}
 use Rattle.shape.specs.Trees.{marksT}
-use Rattle.tree_query.specs.Good.{Good}
-use Rattle.tree_query.proofs.Opened.{record-good, record-marks, record-length, record-ranked}
+use Rattle.tree_query.specs.Records.{OpenRecord, treeBy}
+use Rattle.tree_query.proofs.Records.{record-length}
 
 -- A branch.
 sum-last : (n : ℕ) (f : ℕ → ℕ) → 1 ≤ n → sumBelow (n - 1) f + f (n - 1) ≡ sumBelow n f
@@ -54,36 +53,33 @@ branch-own : (p : List ℕ) (alphabet h b c : ℕ) → (h ≡ 0 → ⊥) → c <
 branch-own p alphabet zero b c branch low below = absurd (branch refl)
 branch-own p alphabet (suc h) b c branch low below = own-count p alphabet (suc h) b c low below
 
--- A name, by the record that was read.
-module _ (p : List ℕ) (name : ℕ) (o : OpenName p name) (r : Record) (is : r ≡ recordOf p name) (c : ℕ) (low : c < mostAlphabet) where
-  pub leaf-ready : (Good p (r .height) (r .root) × (c < mostAlphabet)) × (r .length ≤ marksIn (r .height) (shapeAt p (r .height) (r .root)))
-  leaf-ready = ((record-good p name o r is, low), omega (arith, record-length p name o r is, ap length (record-marks p name o r is)))
+-- A name, by its record.
+module _ (p : List ℕ) (r : Record) (o : OpenRecord p r) (c : ℕ) (low : c < mostAlphabet) where
+  pub leaf-ready : r .length ≤ marksIn (r .height) (shapeAt p (r .height) (r .root))
+  leaf-ready = omega (arith, record-length p r o)
 
-  pub leaf-counted : (n : ℕ) → n ≡ rank c (flat (r .height) (shapeAt p (r .height) (r .root))) (r .length) → n ≡ count c (marksT (treeOf p name))
+  pub leaf-counted : (n : ℕ) → n ≡ rank c (flat (r .height) (shapeAt p (r .height) (r .root))) (r .length) → n ≡ count c (marksT (treeBy p r))
   leaf-counted n ranked =
-      record-ranked p name o r is c (r .length) n ranked
-      ∙ ap (rank c (marksT (treeOf p name))) (record-length p name o r is)
-      ∙ rank-length c (marksT (treeOf p name))
+      ranked ∙ ap (rank c (marksT (treeBy p r))) (record-length p r o) ∙ rank-length c (marksT (treeBy p r))
 
   module _ (branch : r .height ≡ 0 → ⊥) where
-    root-says : ownCount p 1 (r .root) c ≡ count c (marksT (treeOf p name))
-    root-says =
-        branch-own p (r .alphabet) (r .height) (r .root) c branch low (rw is (o .below))
-        ∙ ap (count c) (record-marks p name o r is)
+    root-says : ownCount p 1 (r .root) c ≡ count c (marksT (treeBy p r))
+    root-says = branch-own p (r .alphabet) (r .height) (r .root) c branch low (rw (o .is) (o .opened .below))
 
-    pub branch-ready : r .length < wordLimit
-        → ((r .root < shares p) × (c < mostAlphabet))
-        × ((leastBranch ≤ entries p (r .root)) × (entries p (r .root) ≤ mostBranch) × (ownCount p 1 (r .root) c < wordLimit))
-    branch-ready short =
-        let size = branch-size p (r .height) (r .root) branch (rw is (o .root)) in
-        let inside : r .root < shares p = rw is (o .root .inside) in (
-          (inside, low),
-          (
-            size .0,
-            size .1,
-            omega (arith, root-says, count-le-length c (marksT (treeOf p name)), record-length p name o r is),
-          ),
-        )
+    root-block : SoundBlock p (rootLeast (r .height)) (r .height) (r .root)
+    root-block = rw (o .is) (o .opened .root)
 
-    pub branch-counted : (n : ℕ) → n ≡ ownCount p 1 (r .root) c → n ≡ count c (marksT (treeOf p name))
+    pub branch-inside : r .root < shares p
+    branch-inside = root-block .inside
+
+    pub branch-least : leastBranch ≤ entries p (r .root)
+    branch-least = branch-size p (r .height) (r .root) branch root-block .0
+
+    pub branch-most : entries p (r .root) ≤ mostBranch
+    branch-most = branch-size p (r .height) (r .root) branch root-block .1
+
+    pub branch-few : r .length < wordLimit → ownCount p 1 (r .root) c < wordLimit
+    branch-few short = omega (arith, root-says, count-le-length c (marksT (treeBy p r)), record-length p r o)
+
+    pub branch-counted : (n : ℕ) → n ≡ ownCount p 1 (r .root) c → n ≡ count c (marksT (treeBy p r))
     branch-counted n says = says ∙ root-says

@@ -1,5 +1,5 @@
 pub mod Trees
 pub mod Steps
 pub mod Descents
-pub mod Opened
+pub mod Records
 pub mod Counted

@@ -1,2 +1,3 @@
 pub mod Good
+pub mod Records
 pub mod Answers

@@ -4,12 +4,8 @@ mod descent;
 
 pub use by_name::access;
 pub use by_name::count;
-pub use by_name::length;
 pub use by_name::rank;
 pub use by_name::select;
-pub use descent::access_in;
-pub use descent::rank_in;
-pub use descent::select_in;
 
 // The mark at a place, and how many blocks were entered on the way to it.
 pub struct Found {

@@ -1,31 +1,27 @@
 -- What the queries ask of a name, from what the program has tested.
 use mathlib.Core.Bool.{Bool, true}
-use mathlib.Core.Path.{_≡_, ap, _∙_}
+use mathlib.Core.Path.{_≡_}
 use mathlib.Core.List.{List}
-use mathlib.Core.Logic.{⊎-elim}
 use Prim.Native.Nat.{ℕ, _≤_, _<_}
 use native.Mathlib.Omega.{arith}
 use Rattle.geometry.specs.Layout.{kindClosed}
 use Rattle.geometry.specs.Limits.{names}
 use Rattle.geometry.specs.declared.Record.{Record}
 use Rattle.pool.specs.Names.{recordOf}
-use Rattle.pool.specs.Sound.{ClosedName, OpenName, Sound}
-use Rattle.pool.proofs.Written.{closed-record}
+use Rattle.pool.specs.Sound.{Sound}
 use Rattle.pool_check.specs.Parts.{Checked}
 use Rattle.sequence.specs.Definition1.{count, rank}
 use Rattle.sequence.proofs.Ranks.{rank-le-count}
+use Rattle.tree_query.proofs.Records.{open-by-kind, open-record}
+use Rattle.tree_query.specs.Records.{OpenRecord}
 
 -- a pool that the check takes is sound
 pub checked-sound : (p : List ℕ) (r : Bool) (map : List ℕ) → Checked p r map → r ≡ true → Sound p
 checked-sound p r map checked passed = checked .says .sound passed
 
--- a name of a sound pool whose record says another kind than that of a closed one is open
-pub sound-open : (p : List ℕ) (name : ℕ) (r : Record) → Sound p → name < names → r ≡ recordOf p name → (r .kind ≡ kindClosed → ⊥) → OpenName p name
-sound-open p name r sound low is other =
-    ⊎-elim
-    (λ (closed : ClosedName p name). absurd (other (ap (λ (r : Record). r .kind) is ∙ ap (λ (r : Record). r .kind) (closed-record p name closed))))
-    (λ (opened : OpenName p name). opened)
-    (sound .each name low)
+-- the record of an open name
+pub sound-open : (p : List ℕ) (name : ℕ) (r : Record) → Sound p → name < names → r ≡ recordOf p name → (r .kind ≡ kindClosed → ⊥) → OpenRecord p r
+sound-open p name r sound low is other = open-record p name r (open-by-kind p name r sound low is other) is
 
 -- so many as the rank is at a place can be selected
 pub rank-in-count : (c : ℕ) (xs : List ℕ) (i met r : ℕ) → r ≡ rank c xs i → r ≡ met → met ≤ count c xs

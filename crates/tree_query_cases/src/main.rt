@@ -3,9 +3,9 @@
 ghost use Prim.Native.Nat.{_*_, _≤_, _<_};
 ghost use lib.ListN.{length};
 ghost use Rattle.geometry.specs.Limits.{names, mostAlphabet};
-ghost use Rattle.pool.specs.Names.{treeOf};
-ghost use Rattle.pool.specs.Sound.{OpenName, Sound};
+ghost use Rattle.pool.specs.Sound.{Sound};
 ghost use Rattle.shape.specs.Trees.{marksT};
+ghost use Rattle.tree_query.specs.Records.{OpenRecord, treeBy};
 ghost use Rattle.tree_query_cases.specs.Slots.{slotSize};
 use geometry::Record;
 use libc::STDIN_FILENO;
@@ -50,20 +50,20 @@ fn compare_names(pool: &[u8], slots: &[u8])
 fn compare_name(pool: &[u8], name: usize, slot: &[u8])
     requires { ⌜ (name < names) × Sound (now pool) × (slotSize ≤ length (now slot)) ⌝ }
 {
-    let record = pool::read_record(pool, name);
-    if record.kind == Record::KIND_CLOSED {
+    let found = pool::read_record(pool, name);
+    if found.kind == Record::KIND_CLOSED {
         return;
     }
-    compare_open(pool, name, slot);
+    compare_open(pool, name, found, slot);
 }
 
-// Compares an open name with its slot, and says what came of it.
-fn compare_open(pool: &[u8], name: usize, slot: &[u8])
-    requires { ⌜ (name < names) × OpenName (now pool) name × (slotSize ≤ length (now slot)) ⌝ }
+// Compares an open name with its slot, by the record that was read, and says what came of it.
+fn compare_open(pool: &[u8], name: usize, found: Record, slot: &[u8])
+    requires { ⌜ OpenRecord (now pool) found × (slotSize ≤ length (now slot)) ⌝ }
 {
     let depth = pool::wide(slot[0]);
     let number = pool::word(slot, NUMBER_AT);
-    if tree_query::length(pool, name) != number {
+    if found.length as usize != number {
         tell(name, b"its length differs from", number);
         return;
     }
@@ -72,35 +72,35 @@ fn compare_open(pool: &[u8], name: usize, slot: &[u8])
         return;
     }
     let end = MARKS_AT + number;
-    if answers_right(pool, name, depth, &slot[MARKS_AT..end]) {
+    if answers_right(pool, name, found, depth, &slot[MARKS_AT..end]) {
         tell_right(name, number, depth);
     }
 }
 
 // Every answer of a name that should have these marks, all of them at one depth.
-fn answers_right(pool: &[u8], name: usize, depth: usize, marks: &[u8]) -> bool
-    requires opened { ⌜ (name < names) × OpenName (now pool) name ⌝ }
-    requires long { ⌜ length (now marks) ≤ length (marksT (treeOf (now pool) name)) ⌝ }
+fn answers_right(pool: &[u8], name: usize, found: Record, depth: usize, marks: &[u8]) -> bool
+    requires opened { ⌜ OpenRecord (now pool) found ⌝ }
+    requires long { ⌜ length (now marks) ≤ length (marksT (treeBy (now pool) found)) ⌝ }
 {
-    if !marks_right(pool, name, depth, marks) {
+    if !marks_right(pool, name, found, depth, marks) {
         return false;
     }
-    symbols_right(pool, name, marks)
+    symbols_right(pool, name, found, marks)
 }
 
 // The mark at every place, and its depth.
-fn marks_right(pool: &[u8], name: usize, depth: usize, marks: &[u8]) -> bool
-    requires opened { ⌜ (name < names) × OpenName (now pool) name ⌝ }
-    requires long { ⌜ length (now marks) ≤ length (marksT (treeOf (now pool) name)) ⌝ }
+fn marks_right(pool: &[u8], name: usize, found: Record, depth: usize, marks: &[u8]) -> bool
+    requires opened { ⌜ OpenRecord (now pool) found ⌝ }
+    requires long { ⌜ length (now marks) ≤ length (marksT (treeBy (now pool) found)) ⌝ }
 {
     let mut i = 0;
     while i < marks.len() {
-        let found = tree_query::access(pool, name, i + 1);
-        if found.mark != marks[i] {
+        let place = tree_query::access(pool, found, i + 1);
+        if place.mark != marks[i] {
             tell(name, b"access differs at place", i + 1);
             return false;
         }
-        if found.blocks != depth {
+        if place.blocks != depth {
             tell(name, b"the depth differs at place", i + 1);
             return false;
         }
@@ -110,13 +110,13 @@ fn marks_right(pool: &[u8], name: usize, depth: usize, marks: &[u8]) -> bool
 }
 
 // The ranks and places of every symbol, those past the name's alphabet too.
-fn symbols_right(pool: &[u8], name: usize, marks: &[u8]) -> bool
-    requires opened { ⌜ (name < names) × OpenName (now pool) name ⌝ }
-    requires long { ⌜ length (now marks) ≤ length (marksT (treeOf (now pool) name)) ⌝ }
+fn symbols_right(pool: &[u8], name: usize, found: Record, marks: &[u8]) -> bool
+    requires opened { ⌜ OpenRecord (now pool) found ⌝ }
+    requires long { ⌜ length (now marks) ≤ length (marksT (treeBy (now pool) found)) ⌝ }
 {
     let mut symbol: u8 = 0;
     while (symbol as usize) < Record::MOST_ALPHABET {
-        if !places_right(pool, name, symbol, marks) {
+        if !places_right(pool, name, found, symbol, marks) {
             tell(name, b"asked for symbol", symbol as usize);
             return false;
         }
@@ -126,11 +126,11 @@ fn symbols_right(pool: &[u8], name: usize, marks: &[u8]) -> bool
 }
 
 // The rank of a symbol at every place from 0 on, counted one mark at a time, and the place of each that is met.
-fn places_right(pool: &[u8], name: usize, symbol: u8, marks: &[u8]) -> bool
-    requires opened { ⌜ (name < names) × OpenName (now pool) name × (symbol < mostAlphabet) ⌝ }
-    requires long { ⌜ length (now marks) ≤ length (marksT (treeOf (now pool) name)) ⌝ }
+fn places_right(pool: &[u8], name: usize, found: Record, symbol: u8, marks: &[u8]) -> bool
+    requires opened { ⌜ OpenRecord (now pool) found × (symbol < mostAlphabet) ⌝ }
+    requires long { ⌜ length (now marks) ≤ length (marksT (treeBy (now pool) found)) ⌝ }
 {
-    if !place_right(pool, name, symbol, 0, 0, 0) {
+    if !place_right(pool, name, found, symbol, 0, 0, 0) {
         return false;
     }
     let mut met = 0;
@@ -141,7 +141,7 @@ fn places_right(pool: &[u8], name: usize, symbol: u8, marks: &[u8]) -> bool
             met += 1;
         }
         i += 1;
-        if !place_right(pool, name, symbol, i, before, met) {
+        if !place_right(pool, name, found, symbol, i, before, met) {
             return false;
         }
     }
@@ -152,20 +152,21 @@ fn places_right(pool: &[u8], name: usize, symbol: u8, marks: &[u8]) -> bool
 fn place_right(
     pool: &[u8],
     name: usize,
+    found: Record,
     symbol: u8,
     place: usize,
     before: usize,
     met: usize,
 ) -> bool
-    requires opened { ⌜ (name < names) × OpenName (now pool) name × (symbol < mostAlphabet) ⌝ }
-    requires inside { ⌜ place ≤ length (marksT (treeOf (now pool) name)) ⌝ }
+    requires opened { ⌜ OpenRecord (now pool) found × (symbol < mostAlphabet) ⌝ }
+    requires inside { ⌜ place ≤ length (marksT (treeBy (now pool) found)) ⌝ }
 {
-    if tree_query::rank(pool, name, symbol, place) != met {
+    if tree_query::rank(pool, found, symbol, place) != met {
         tell(name, b"rank differs at place", place);
         return false;
     }
     if met > before {
-        if tree_query::select(pool, name, symbol, met) != place {
+        if tree_query::select(pool, found, symbol, met) != place {
             tell(name, b"select differs for place", place);
             return false;
         }

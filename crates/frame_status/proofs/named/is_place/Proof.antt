@@ -1,13 +1,11 @@
 -- `frame_status::named::is_place` meets its contract.
-use Rattle.frame_status.proofs.Refused.{place-before, place-up-to}
+use Rattle.frame_status.proofs.Statuses.{place-before, place-up-to}
 use Rattle.frame_status.proofs.named.is_place.Statement.{statement}
 use Rattle.frame_status.proofs.named.is_place.Tie as tie
 
-returns : tie.Need-returns
-returns c = search place-before
-
-returns-2 : tie.Need-returns-2
-returns-2 c = search place-up-to
-
 pub is-place-spec : {M : Type 1} → statement M
-is-place-spec = tie.close (tie.spec returns returns-2)
+is-place-spec =
+    tie.close
+    (tie.spec
+    (λ c. search place-before)
+    (λ c. search place-up-to))

@@ -3,11 +3,9 @@ use Rattle.frame_status.proofs.Codes.{low-unknown, known-up-to}
 use Rattle.frame_status.proofs.well_formed.is_known.Statement.{statement}
 use Rattle.frame_status.proofs.well_formed.is_known.Tie as tie
 
-returns : tie.Need-returns
-returns c = search low-unknown
-
-returns-2 : tie.Need-returns-2
-returns-2 c = search known-up-to
-
 pub is-known-spec : {M : Type 1} → statement M
-is-known-spec = tie.close (tie.spec returns returns-2)
+is-known-spec =
+    tie.close
+    (tie.spec
+    (λ c. search low-unknown)
+    (λ c. search known-up-to))

@@ -16,7 +16,7 @@ use Rattle.shape.proofs.Folds.{joined-append}
 use Rattle.call_run.specs.Frames.{FramesReady, FramesRun}
 use Rattle.call_run.specs.Runs.{Runs}
 use Rattle.call_run.proofs.Cutting.{commandAt, firstCommands, no-commands, one-command-more, all-commands, answer-bytes}
-use Rattle.call_run.proofs.Following.{runs-long, runs-snoc}
+use Rattle.call_run.proofs.Runs.{runs-long, runs-snoc}
 
 -- k frames were run, from the pool p to the pool q with its map m, and answered in front of the room
 pub record FramesDone (p commands room : List ℕ) (k : ℕ) (q m filled : List ℕ) : Type 0 where

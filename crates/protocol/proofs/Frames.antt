@@ -9,7 +9,7 @@ use lib.Dec.{lit<}
 use lib.ListN.{length, getD, take, drop, set, drop-of-length-le}
 use lib.Seq.{drop-cons, getD-take, getD-drop, sets-eq, paste}
 use Rattle.geometry.specs.Limits.{frameSize}
-use Rattle.protocol.specs.Frames.{numberOf, commandOf, bytesOfCommand, bytesOfAnswer, Fitting}
+use Rattle.protocol.specs.Frames.{numberOf, commandOf, answerOfBytes, bytesOfCommand, bytesOfAnswer, Fitting}
 use Rattle.sequence.specs.Alphabet.{AllBelow}
 use Rattle.protocol.specs.declared.Answer.{Answer}
 use Rattle.protocol.specs.declared.Command.{Command}
@@ -98,6 +98,14 @@ command-at bytes at number is =
       byte-at bytes at 7 (lit< tt),
       add-zero at,
     )
+
+-- an answer has its fields where a command has them
+pub answer-at : (bytes : List ℕ) (fields : Command) → fields ≡ commandOf bytes
+    → _≡_ {A = Answer}
+    (record { status = fields .code; name = fields .name; symbol = fields .symbol; depth = fields .fourth; value = fields .number })
+    (answerOfBytes bytes)
+unfolding commandOf answerOfBytes
+answer-at bytes fields is = rw is
 
 -- what the code puts, byte after byte, is the eight bytes from `at` on
 pub eight-put : (out : List ℕ) (at a b c d e f g h : ℕ) → at + frameSize ≤ length out

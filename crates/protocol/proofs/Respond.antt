@@ -13,7 +13,7 @@ use Rattle.protocol.specs.Refusals.{refusals, statusOf}
 use Rattle.protocol.specs.Respond.{accepted, refused, replyOf, reply, respond, answersTo, stateAfter}
 use Rattle.protocol.specs.State.{Store, Part, State, closed, partOf, unpromised}
 use Rattle.protocol.specs.declared.Command.{Command}
-use Rattle.protocol.proofs.Rows.{by-row}
+use Rattle.protocol.proofs.Commands.{by-row}
 
 module _ {A : Type 0} (part : Part A) (c : Command) (e : Effect A) where
   reply-of-status : (status : ℕ) → replyOf status part c e .answer .status ≡ status

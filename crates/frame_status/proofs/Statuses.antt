@@ -1,28 +1,31 @@
 -- The status of a command by the tests that the code makes: one law for each way out.
 use mathlib.Core.Bool.{Bool, true, false, cond, not, _&&_, _||_}
 use mathlib.Core.List.{List}
-use mathlib.Core.Logic.{_⊎_, ⊎-elim}
+use mathlib.Core.Logic.{_⊎_, _≢_, ⊎-elim}
 use mathlib.Core.Path.{_≡_, sym, ap, _∙_}
 use Prim.Native.Nat.{ℕ, _+_, _*_, _≤_, _<_}
 use native.Mathlib.Omega.{arith}
 use borrow.Author.Tests.{eq-eqb, ne-eqb, le-leb, lt-leb, lt-ltb, le-ltb}
 use lib.Dec.{eqb, leb, ltb}
 use lib.ListN.{length}
+use Rattle.geometry.specs.Layout.{kindClosed}
 use Rattle.geometry.specs.Limits.{names, leastAlphabet, mostAlphabet, marksPerShare}
 use Rattle.geometry.specs.declared.Record.{Record}
 use Rattle.pool.proofs.Meanings.{unpromised-meaning}
-use Rattle.pool.specs.Meaning.{meaningOf, meaning}
-use Rattle.pool.specs.Names.{recordOf, treeOf}
+use Rattle.pool.specs.Meaning.{meaning}
 use Rattle.pool.specs.Shares.{unpromisedShares}
+use Rattle.pool.specs.Sound.{OpenName}
 use Rattle.protocol.specs.Commands.{openCode, insertCode, deleteCode, accessCode, rankCode, selectCode, unpromisedCode}
-use Rattle.protocol.specs.State.{Part, closed, opened, isOpen, partOf, unpromised}
+use Rattle.protocol.specs.State.{Part, closed, opened, partOf, unpromised}
 use Rattle.protocol.specs.declared.Command.{Command}
 use Rattle.sequence.specs.Definition1.{count}
 use Rattle.shape.specs.Trees.{Tree, marksT}
-use Rattle.frame_status.specs.Statuses.{statusIn, WellFormed, Opening, Naming, Asking}
+use Rattle.tree_query.proofs.Records.{open-by-kind, open-record, record-length}
+use Rattle.tree_query.specs.Records.{OpenRecord, treeBy}
+use Rattle.frame_status.specs.Statuses.{statusIn, WellFormed, Naming, Asking, StatusBy}
 use Rattle.frame_status.proofs.Codes.{listed-within}
 use Rattle.frame_status.proofs.Forms.{laterStatus, later-tests, name-below}
-use Rattle.frame_status.proofs.Parts.{is-open, is-closed, closed-part, opened-part}
+use Rattle.frame_status.proofs.Parts.{closed-by-kind, closed-part, opened-part}
 use Rattle.frame_status.proofs.Tests.{
   later-unpromised,
   already-open,
@@ -53,26 +56,32 @@ module _ (p : List ℕ) (c : Command) where
   pub unpromised-passes : WellFormed c → c .code ≡ unpromisedCode → 0 ≡ statusIn p c
   unpromised-passes formed is = sym (later-tests _ _ c formed ∙ later-unpromised _ _ c is)
 
--- An opening.
-module _ (p : List ℕ) (c : Command) (o : Opening p c) where
-  pub opening-low : c .name < names
-  opening-low = name-below c (o .formed) (λ (e : c .code ≡ unpromisedCode). omega (arith, o .code))
+-- A command that names a name.
+module _ (p : List ℕ) (c : Command) (found : Record) (n : Naming p c found) where
+  naming-low : c .name < names
+  naming-low = name-below c (n .formed) (n .named)
 
-  module _ (yes : Bool) (says : yes ≡ isOpen (meaningOf p (c .name))) where
-    pub opening-opened : yes ≡ true → 4 ≡ statusIn p c
-    opening-opened holds =
+  naming-open : (found .kind ≡ kindClosed → ⊥) → OpenName p (c .name)
+  naming-open = open-by-kind p (c .name) found (n .sound) naming-low (n .read)
+
+  -- its later tests where the name is closed
+  naming-closed-part : found .kind ≡ kindClosed → statusIn p c ≡ laterStatus (unpromised (meaning p)) closed c
+  naming-closed-part is =
+      by-part p c closed (n .formed)
+      (closed-part p (c .name) (n .sound) naming-low (closed-by-kind p (c .name) (n .sound) naming-low found (n .read) is))
+
+  -- an opening
+  module _ (code : c .code ≡ openCode) where
+    pub opening-opened : (found .kind ≡ kindClosed → ⊥) → 4 ≡ statusIn p c
+    opening-opened other =
         sym
-        (by-part p c _ (o .formed) (opened-part p (c .name) (o .sound) opening-low (is-open p (c .name) (o .sound) opening-low (sym says ∙ holds)))
-        ∙ already-open _ _ _ _ c (o .code))
+        (by-part p c _ (n .formed) (opened-part p (c .name) (n .sound) naming-low (naming-open other)) ∙ already-open _ _ _ _ c code)
 
-    module _ (fails : yes ≡ false) where
+    module _ (is : found .kind ≡ kindClosed) where
       opening-closed : statusIn p c
           ≡ cond (not (leb leastAlphabet (c .symbol) && leb (c .symbol) mostAlphabet)) 6
           (cond (eqb (c .number) 0) 7 (cond (ltb (unpromisedShares p) (c .number)) 12 0))
-      opening-closed =
-          by-part p c closed (o .formed) (closed-part p (c .name) (o .sound) opening-low (is-closed p (c .name) (o .sound) opening-low (sym says ∙ fails)))
-          ∙ opening-tests _ c (o .code)
-          ∙ rw (unpromised-meaning p (o .sound))
+      opening-closed = naming-closed-part is ∙ opening-tests _ c code ∙ rw (unpromised-meaning p (n .sound))
 
       pub opening-small : c .symbol < leastAlphabet → 6 ≡ statusIn p c
       opening-small small = sym (opening-closed ∙ rw (lt-leb leastAlphabet (c .symbol) small))
@@ -88,70 +97,57 @@ module _ (p : List ℕ) (c : Command) (o : Opening p c) where
             (opening-closed
             ∙ rw (le-leb leastAlphabet (c .symbol) least, le-leb (c .symbol) mostAlphabet most, eq-eqb (c .number) 0 none))
 
-        pub opening-exceeds : (free : ℕ) → (c .number ≡ 0 → ⊥) → free ≡ unpromisedShares p → free < c .number → 12 ≡ statusIn p c
-        opening-exceeds free some is more =
-            sym
-            (opening-closed
-            ∙ rw (
-              le-leb leastAlphabet (c .symbol) least,
-              le-leb (c .symbol) mostAlphabet most,
-              ne-eqb (c .number) 0 some,
-              lt-ltb (unpromisedShares p) (c .number) (omega (arith, is)),
-            ))
+        module _ (free : ℕ) (some : c .number ≡ 0 → ⊥) (told : free ≡ unpromisedShares p) where
+          opening-shares : statusIn p c ≡ cond (ltb free (c .number)) 12 0
+          opening-shares =
+              opening-closed
+              ∙ rw (le-leb leastAlphabet (c .symbol) least, le-leb (c .symbol) mostAlphabet most, ne-eqb (c .number) 0 some, told)
 
-        pub opening-passes : (free : ℕ) → (c .number ≡ 0 → ⊥) → free ≡ unpromisedShares p → c .number ≤ free → 0 ≡ statusIn p c
-        opening-passes free some is enough =
-            sym
-            (opening-closed
-            ∙ rw (
-              le-leb leastAlphabet (c .symbol) least,
-              le-leb (c .symbol) mostAlphabet most,
-              ne-eqb (c .number) 0 some,
-              le-ltb (unpromisedShares p) (c .number) (omega (arith, is)),
-            ))
+          pub opening-exceeds : free < c .number → 12 ≡ statusIn p c
+          opening-exceeds more = sym (opening-shares ∙ rw (lt-ltb free (c .number) more))
 
--- A command to a name that must be open.
-module _ (p : List ℕ) (c : Command) (n : Naming p c) where
-  pub naming-low : c .name < names
-  naming-low = name-below c (n .formed) (n .named)
+          pub opening-passes : c .number ≤ free → 0 ≡ statusIn p c
+          opening-passes enough = sym (opening-shares ∙ rw (le-ltb free (c .number) enough))
 
-  module _ (yes : Bool) (says : yes ≡ isOpen (meaningOf p (c .name))) where
-    pub naming-closed : yes ≡ false → 5 ≡ statusIn p c
-    naming-closed fails =
+  -- a command to a name that must be open
+  module _ (other : c .code ≢ openCode) where
+    pub naming-closed : found .kind ≡ kindClosed → 5 ≡ statusIn p c
+    naming-closed is =
         let within = listed-within (c .code) (n .formed .known) in
-        let first : c .code ≡ openCode → ⊥ = n .noOpening in
+        let first : c .code ≡ openCode → ⊥ = other in
         let last : c .code ≡ unpromisedCode → ⊥ = n .named in
-        sym
-        (by-part p c closed (n .formed) (closed-part p (c .name) (n .sound) naming-low (is-closed p (c .name) (n .sound) naming-low (sym says ∙ fails)))
-        ∙ not-open _ c (omega (arith, within .0, first)) (omega (arith, within .1, last)))
+        sym (naming-closed-part is ∙ not-open _ c (omega (arith, within .0, first)) (omega (arith, within .1, last)))
 
-    pub naming-asks : yes ≡ true → Asking p c
-    naming-asks holds =
-        record {
-          formed = n .formed;
-          sound = n .sound;
-          low = naming-low;
-          opened = is-open p (c .name) (n .sound) naming-low (sym says ∙ holds);
-        }
-
-    pub naming-passes : yes ≡ true → (c .code ≡ insertCode → ⊥) → (c .code ≡ rankCode → ⊥) → (c .code ≡ selectCode → ⊥) → (c .code ≡ deleteCode → ⊥)
+    pub naming-passes : (found .kind ≡ kindClosed → ⊥) → (c .code ≡ insertCode → ⊥) → (c .code ≡ rankCode → ⊥) → (c .code ≡ selectCode → ⊥)
+        → (c .code ≡ deleteCode → ⊥)
         → (c .code ≡ accessCode → ⊥)
         → 0 ≡ statusIn p c
-    naming-passes holds i r s d a =
+    naming-passes is i r s d a =
         sym
-        (by-part p c _ (n .formed) (opened-part p (c .name) (n .sound) naming-low (naming-asks holds .opened))
-        ∙ no-tests _ _ _ _ c (n .formed .known) (n .noOpening) (n .named) i r s d a)
+        (by-part p c _ (n .formed) (opened-part p (c .name) (n .sound) naming-low (naming-open is))
+        ∙ no-tests _ _ _ _ c (n .formed .known) other (n .named) i r s d a)
+
+  module _ (is : found .kind ≡ kindClosed → ⊥) where
+    pub naming-asks : Asking p c found
+    naming-asks = record { naming = n; opened = naming-open is }
+
+    pub naming-status : (status : ℕ) → StatusBy c found status → status ≡ statusIn p c
+    naming-status status by = by p naming-asks
 
 -- A command to an open name, by its record.
-module _ (p : List ℕ) (c : Command) (k : Asking p c) (found : Record) (is : found ≡ recordOf p (c .name)) where
-  asked-part : partOf (meaning p) (c .name) ≡ opened (found .alphabet) (found .q) (treeOf p (c .name))
-  asked-part = rw is (opened-part p (c .name) (k .sound) (k .low) (k .opened))
+module _ (p : List ℕ) (c : Command) (found : Record) (k : Asking p c found) where
+  asked-part : partOf (meaning p) (c .name) ≡ opened (found .alphabet) (found .q) (treeBy p found)
+  asked-part = rw (k .naming .read) (opened-part p (c .name) (k .naming .sound) (naming-low p c found (k .naming)) (k .opened))
 
-  asked : statusIn p c ≡ laterStatus (unpromised (meaning p)) (opened (found .alphabet) (found .q) (treeOf p (c .name))) c
-  asked = by-part p c _ (k .formed) asked-part
+  asked : statusIn p c ≡ laterStatus (unpromised (meaning p)) (opened (found .alphabet) (found .q) (treeBy p found)) c
+  asked = by-part p c _ (k .naming .formed) asked-part
 
-  long : length (marksT (treeOf p (c .name))) ≡ found .length
-  long = sym (ap (λ (r : Record). r .length) is ∙ k .opened .length)
+  -- its tree can be asked
+  pub asked-record : OpenRecord p found
+  asked-record = open-record p (c .name) found (k .opened) (k .naming .read)
+
+  long : length (marksT (treeBy p found)) ≡ found .length
+  long = sym (record-length p found asked-record)
 
   -- an insert
   module _ (code : c .code ≡ insertCode) where
@@ -208,7 +204,7 @@ module _ (p : List ℕ) (c : Command) (k : Asking p c) (found : Record) (is : fo
   module _ (code : c .code ≡ selectCode) where
     select-is : statusIn p c
         ≡ cond (leb (found .alphabet) (c .symbol)) 8
-        (cond (eqb (c .number) 0 || ltb (count (c .symbol) (marksT (treeOf p (c .name)))) (c .number)) 10 0)
+        (cond (eqb (c .number) 0 || ltb (count (c .symbol) (marksT (treeBy p found))) (c .number)) 10 0)
     select-is = asked ∙ select-tests _ _ _ _ c code
 
     pub select-symbol : found .alphabet ≤ c .symbol → 8 ≡ statusIn p c
@@ -217,29 +213,18 @@ module _ (p : List ℕ) (c : Command) (k : Asking p c) (found : Record) (is : fo
     module _ (inside : c .symbol < found .alphabet) where
       -- its symbol can be counted
       pub select-counts : c .symbol < mostAlphabet
-      select-counts = omega (arith, k .opened .alphabetMost, ap (λ (r : Record). r .alphabet) is)
+      select-counts = omega (arith, k .opened .alphabetMost, ap (λ (r : Record). r .alphabet) (k .naming .read))
 
       pub select-zero : c .number ≡ 0 → 10 ≡ statusIn p c
       select-zero zero =
           sym (select-is ∙ rw (lt-leb (found .alphabet) (c .symbol) inside, eq-eqb (c .number) 0 zero))
 
-      module _ (many : ℕ) (counted : many ≡ count (c .symbol) (marksT (treeOf p (c .name)))) (some : c .number ≡ 0 → ⊥) where
+      module _ (many : ℕ) (counted : many ≡ count (c .symbol) (marksT (treeBy p found))) (some : c .number ≡ 0 → ⊥) where
+        select-counted : statusIn p c ≡ cond (ltb many (c .number)) 10 0
+        select-counted = select-is ∙ rw (lt-leb (found .alphabet) (c .symbol) inside, ne-eqb (c .number) 0 some, counted)
+
         pub select-past : many < c .number → 10 ≡ statusIn p c
-        select-past past =
-            sym
-            (select-is
-            ∙ rw (
-              lt-leb (found .alphabet) (c .symbol) inside,
-              ne-eqb (c .number) 0 some,
-              lt-ltb (count (c .symbol) (marksT (treeOf p (c .name)))) (c .number) (omega (arith, counted)),
-            ))
+        select-past past = sym (select-counted ∙ rw (lt-ltb many (c .number) past))
 
         pub select-passes : c .number ≤ many → 0 ≡ statusIn p c
-        select-passes within =
-            sym
-            (select-is
-            ∙ rw (
-              lt-leb (found .alphabet) (c .symbol) inside,
-              ne-eqb (c .number) 0 some,
-              le-ltb (count (c .symbol) (marksT (treeOf p (c .name)))) (c .number) (omega (arith, counted)),
-            ))
+        select-passes within = sym (select-counted ∙ rw (le-ltb many (c .number) within))

@@ -15,8 +15,8 @@ use Rattle.protocol.specs.Valid.{ValidOpen, ValidPart, Valid, Faithful}
 use Rattle.protocol.specs.declared.Command.{Command}
 use Rattle.protocol.proofs.Accepted.{OpenAccepted, InsertAccepted, PlaceAccepted, open-accepted, insert-accepted, delete-accepted}
 use Rattle.sequence.proofs.Edits.{length-insert, length-delete-le, allBelow-insert, allBelow-delete}
-use Rattle.protocol.proofs.Replies.{names-stay}
-use Rattle.protocol.proofs.Rows.{by-row}
+use Rattle.protocol.proofs.Respond.{names-stay}
+use Rattle.protocol.proofs.Commands.{by-row}
 
 module _ {A : Type 0} where
   -- what holds of every name's part, and of a new one, holds of every name's part after the new one has taken a name's place

@@ -6,8 +6,8 @@ use Prim.Native.Nat.{ℕ, zero, suc, _≤_}
 use native.Mathlib.Omega.{arith}
 use lib.ListN.{getD}
 use Rattle.geometry.specs.Limits.{mostShares}
-use Rattle.protocol.proofs.Replies.{accepted-reply, respond-answer, respond-status}
-use Rattle.protocol.proofs.Rows.{by-row}
+use Rattle.protocol.proofs.Respond.{accepted-reply, respond-answer, respond-status}
+use Rattle.protocol.proofs.Commands.{by-row}
 use Rattle.protocol.specs.Commands.{Effect, depthOf, rows, rowFor, accessCode}
 use Rattle.protocol.specs.Refusals.{statusOf}
 use Rattle.protocol.specs.Respond.{replyOf, reply, respond}

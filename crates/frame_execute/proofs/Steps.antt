@@ -2,12 +2,12 @@
 -- of the meaning, which the machine's effect is, and no other name's record or blocks.
 use mathlib.Core.Bool.{true, true≢false}
 use mathlib.Core.List.{List, [], _∷_}
-use mathlib.Core.Logic.{_⊎_, _≢_, ⊎-elim}
+use mathlib.Core.Logic.{_≢_, ⊎-elim}
 use mathlib.Core.Path.{_≡_, refl, sym, ap, ap₂, subst, _∙_}
 use Prim.Native.Nat.{ℕ, _+_, _-_, _*_, _≤_, _<_}
 use native.Mathlib.Omega.{arith}
 use lib.ListN.{length, set}
-use Rattle.geometry.specs.Limits.{names, directorySize, marksPerShare}
+use Rattle.geometry.specs.Limits.{names, marksPerShare}
 use Rattle.geometry.specs.declared.Record.{Record}
 use Rattle.machine.specs.Machine.{trees}
 use Rattle.name_open_close.specs.Updates.{NameIn, OpenReady, CloseReady, Updated}
@@ -18,7 +18,7 @@ use Rattle.pool.specs.Meaning.{meaning}
 use Rattle.pool.specs.Names.{recordOf, blocksOf}
 use Rattle.pool.specs.Untouched.{SameBlocks}
 use Rattle.protocol.proofs.Accepted.{InsertAccepted, PlaceAccepted, open-accepted, close-accepted, insert-accepted, delete-accepted, code-is-listed}
-use Rattle.protocol.proofs.Replies.{respond-status, refused-keeps-state, refused-answers-zeros, query-keeps-state}
+use Rattle.protocol.proofs.Respond.{respond-status, refused-keeps-state, refused-answers-zeros, query-keeps-state}
 use Rattle.protocol.specs.Commands.{
   Effect,
   openCode,
@@ -27,9 +27,10 @@ use Rattle.protocol.specs.Commands.{
   deleteCode,
   accessCode,
   unpromisedCode,
+  rows,
   edited,
 }
-use Rattle.protocol.specs.Respond.{accepted, refused, respond}
+use Rattle.protocol.specs.Respond.{accepted, valueTo, refused, respond}
 use Rattle.protocol.specs.State.{Part, closed, opened, alphabetOf, sharesOf, marksOf, partOf, unpromised}
 use Rattle.protocol.specs.declared.Answer.{Answer}
 use Rattle.protocol.specs.declared.Command.{Command}
@@ -41,17 +42,15 @@ use Rattle.frame_queries.proofs.Effects.{
   accepted-low,
   accepted-closed,
   accepted-open,
-  open-effect,
-  close-effect,
-  insert-effect,
-  delete-effect,
+  coded-effect,
 }
-use Rattle.frame_queries.specs.Accepted.{answerOf, valueTo}
+use Rattle.frame_queries.specs.Accepted.{answerOf}
 use Rattle.sequence.specs.Definition1.{access}
 use Rattle.shape.specs.Sizes.{oneToAByte}
 use Rattle.shape.specs.Trees.{Tree, emptyT, insertT, deleteT}
 use Rattle.frame_status.proofs.Codes.{listed-within}
-use Rattle.frame_status.specs.Statuses.{statusIn}
+use Rattle.frame_status.proofs.Forms.{name-below}
+use Rattle.frame_status.specs.Statuses.{statusIn, WellFormed, FormStatus, Naming}
 use Rattle.name_edits.specs.Edits.{InsertAt, DeleteAt, InsertedAt, DeletedAt}
 use Rattle.frame_execute.specs.Steps.{isChange, Kept, Stepped, Ready}
 
@@ -80,17 +79,35 @@ module _ (p m : List ℕ) (c : Command) (ready : Ready p m) where
         map = ready .map;
       }
 
-  pub refused-steps : (status : ℕ) → status ≡ statusIn p c → (status ≡ 0 → ⊥)
-      → Stepped p c (record { status = status; name = c .name; symbol = 0; depth = 0; value = 0 }) p m
-  refused-steps status is some =
+  pub refused-steps : (status : ℕ) (a : Answer) → status ≡ statusIn p c → (status ≡ 0 → ⊥) → a ≡ refused status c → Stepped p c a p m
+  refused-steps status a is some told =
       let given : respond trees (meaning p) c .answer .status ≡ status = respond-status trees (meaning p) c ∙ sym is in
       let refusal : respond trees (meaning p) c .answer .status ≢ 0 = λ none. some (sym given ∙ none) in
-      stays-itself _
-      (ap (λ s. refused s c) (sym given) ∙ sym (refused-answers-zeros trees (meaning p) c refusal))
+      stays-itself a
+      (told ∙ ap (λ s. refused s c) (sym given) ∙ sym (refused-answers-zeros trees (meaning p) c refusal))
       (refused-keeps-state trees (meaning p) c refusal)
+
+  -- a command refused by its form
+  pub form-steps : (status : ℕ) (a : Answer) → FormStatus c status → (status ≡ 0 → ⊥) → a ≡ refused status c → Stepped p c a p m
+  form-steps status a form some = refused-steps status a (form .refused some p) some
+
+  -- and one whose form passes
+  pub form-passes : (status : ℕ) → FormStatus c status → status ≡ 0 → WellFormed c
+  form-passes status form none = form .passed none
 
   pub asked-steps : (a : Answer) → a ≡ answerOf p c → accessCode ≤ c .code → Stepped p c a p m
   asked-steps a is late = stays-itself a is (query-keeps-state trees (meaning p) c late)
+
+  pub unpromised-steps : (a : Answer) → a ≡ answerOf p c → c .code ≡ unpromisedCode → Stepped p c a p m
+  unpromised-steps a is code = asked-steps a is (omega arith)
+
+  -- a well-formed command that names a name: the name's record can be read, and its tests made
+  module _ (formed : WellFormed c) (named : c .code ≢ unpromisedCode) where
+    pub named-low : c .name < names
+    named-low = name-below c formed named
+
+    pub named-tests : (found : Record) → found ≡ recordOf p (c .name) → Naming p c found
+    named-tests found read = record { sound = ready .sound; formed = formed; named = named; read = read }
 
 -- One name changes.
 module _ (p m : List ℕ) (c : Command) (ready : Ready p m) (status : statusIn p c ≡ 0) where
@@ -143,24 +160,26 @@ module _ (p m : List ℕ) (c : Command) (ready : Ready p m) (status : statusIn p
 
     pub open-steps : (q n : List ℕ) (a : Answer) → Updated (c .name) (opened (c .symbol) (c .number) emptyT) p q n → a ≡ valueTo c 0
         → Stepped p c a q n
+    unfolding rows
     open-steps q n a done told =
-        let effect = open-effect (unpromised (meaning p)) (partOf (meaning p) (c .name)) c is in
+        let effect = coded-effect (unpromised (meaning p)) (partOf (meaning p) (c .name)) c openCode is in
         update-steps q n a open-low (ap isChange is) (told ∙ sym (ap (accepted c) effect))
         (subst (λ (e : Effect Tree). Updated (c .name) (e .part) p q n) (sym effect) done)
 
   -- a closing
   module _ (is : c .code ≡ closeCode) where
-    close-open : ToOpen p c
+    close-open : ToOpen p c (recordOf p (c .name))
     close-open =
         accepted-open p c (ready .sound) status (λ (e : c .code ≡ unpromisedCode). omega arith)
-        (close-accepted trees (unpromised (meaning p)) (partOf (meaning p) (c .name)) c is status)
+        (close-accepted trees (unpromised (meaning p)) (partOf (meaning p) (c .name)) c is status) (recordOf p (c .name)) refl
 
     pub close-ready : CloseReady p m (c .name)
     close-ready = record { within = within (close-open .low); opened = close-open .opened }
 
     pub close-steps : (q n : List ℕ) (a : Answer) → Updated (c .name) closed p q n → a ≡ valueTo c 0 → Stepped p c a q n
+    unfolding rows
     close-steps q n a done told =
-        let effect = close-effect (unpromised (meaning p)) (partOf (meaning p) (c .name)) c is in
+        let effect = coded-effect (unpromised (meaning p)) (partOf (meaning p) (c .name)) c closeCode is in
         update-steps q n a (close-open .low) (ap isChange is) (told ∙ sym (ap (accepted c) effect))
         (subst (λ (e : Effect Tree). Updated (c .name) (e .part) p q n) (sym effect) done)
 
@@ -169,11 +188,9 @@ module _ (p m : List ℕ) (c : Command) (ready : Ready p m) (status : statusIn p
     insert-allowed : InsertAccepted trees (partOf (meaning p) (c .name)) c
     insert-allowed = insert-accepted trees (unpromised (meaning p)) (partOf (meaning p) (c .name)) c is status
 
-    insert-open : ToOpen p c
-    insert-open = accepted-open p c (ready .sound) status (λ (e : c .code ≡ unpromisedCode). omega arith) (insert-allowed .is-open)
-
-    pub insert-reads : (c .name < names) × (directorySize ≤ length p)
-    insert-reads = (insert-open .low, omega (arith, ready .sound .allowed .shortest))
+    insert-open : ToOpen p c (recordOf p (c .name))
+    insert-open =
+        accepted-open p c (ready .sound) status (λ (e : c .code ≡ unpromisedCode). omega arith) (insert-allowed .is-open) (recordOf p (c .name)) refl
 
     pub insert-ready : InsertAt p m (c .name) (c .number) (c .symbol)
     insert-ready =
@@ -192,8 +209,9 @@ module _ (p m : List ℕ) (c : Command) (ready : Ready p m) (status : statusIn p
     pub insert-steps : (q n : List ℕ) (found : Record) (a : Answer) → found ≡ recordOf p (c .name) → InsertedAt (c .name) (c .number) (c .symbol) p q n
         → a ≡ valueTo c (found .length + 1)
         → Stepped p c a q n
+    unfolding rows
     insert-steps q n found a read done told =
-        let effect = insert-effect (unpromised (meaning p)) (partOf (meaning p) (c .name)) c is in
+        let effect = coded-effect (unpromised (meaning p)) (partOf (meaning p) (c .name)) c insertCode is in
         let marks : found .length ≡ length (marksOf trees (partOf (meaning p) (c .name)))
         = ap (λ (r : Record). r .length) read
         ∙ insert-open .opened .length
@@ -209,11 +227,9 @@ module _ (p m : List ℕ) (c : Command) (ready : Ready p m) (status : statusIn p
     delete-allowed : PlaceAccepted trees (partOf (meaning p) (c .name)) c
     delete-allowed = delete-accepted trees (unpromised (meaning p)) (partOf (meaning p) (c .name)) c is status
 
-    delete-open : ToOpen p c
-    delete-open = accepted-open p c (ready .sound) status (λ (e : c .code ≡ unpromisedCode). omega arith) (delete-allowed .is-open)
-
-    pub delete-reads : (c .name < names) × (directorySize ≤ length p)
-    delete-reads = (delete-open .low, omega (arith, ready .sound .allowed .shortest))
+    delete-open : ToOpen p c (recordOf p (c .name))
+    delete-open =
+        accepted-open p c (ready .sound) status (λ (e : c .code ≡ unpromisedCode). omega arith) (delete-allowed .is-open) (recordOf p (c .name)) refl
 
     pub delete-ready : DeleteAt p m (c .name) (c .number)
     delete-ready =
@@ -236,8 +252,9 @@ module _ (p m : List ℕ) (c : Command) (ready : Ready p m) (status : statusIn p
 
       pub delete-steps : (q n : List ℕ) (mark : ℕ) → DeletedAt (c .name) (c .number) mark p q n
           → Stepped p c (record { status = 0; name = c .name; symbol = mark; depth = 0; value = found .length - 1 }) q n
+      unfolding rows
       delete-steps q n mark done =
-          let effect = delete-effect (unpromised (meaning p)) (partOf (meaning p) (c .name)) c is in
+          let effect = coded-effect (unpromised (meaning p)) (partOf (meaning p) (c .name)) c deleteCode is in
           let kept = ap (marksOf trees) (delete-open .part) in
           let marks : found .length ≡ length (marksOf trees (partOf (meaning p) (c .name)))
           = ap (λ (r : Record). r .length) read ∙ delete-open .opened .length ∙ sym (ap length kept) in
