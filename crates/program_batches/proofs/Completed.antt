@@ -10,12 +10,13 @@ use native.Mathlib.Omega.{arith}
 use borrow.Author.Tests.{eq-eqb, ne-eqb}
 use lib.Dec.{eqb}
 use lib.ListN.{length, getD, take, drop}
-use lib.Seq.{take-at, drop-at, take-all, take-add, drop-drop, getD-drop, paste, length-paste, take-paste, drop-paste}
+use lib.Seq.{take-at, drop-at, take-add, drop-drop, getD-drop, paste}
 use Rattle.geometry.specs.Limits.{frameSize}
 use Rattle.text_hex.specs.Digits.{digitOf, digitsOf}
 use Rattle.text_hex.specs.Lines.{lineOf, lineSize, digitsOfFrame}
 use Rattle.text_hex.specs.declared.read.Reading.{Reading}
 use Rattle.text_hex.specs.declared.read.Reading.the-variants.{Frame, Bad}
+use Rattle.text_hex.proofs.Fronts.{front-with, back-with, long-with}
 use Rattle.text_hex.proofs.Written.{length-of-line}
 use Rattle.protocol.specs.Frames.{commandOf}
 use Rattle.protocol.specs.declared.Command.{Command}
@@ -140,18 +141,14 @@ module _ (lines : ℕ) (before out answers : List ℕ) (line used : ℕ) (room :
         let put : List ℕ = lineOfBytes (take frameSize (drop used answers)) in
         let is : out' ≡ paste out at put lineSize = puts .kept kept .1 in
         let long : length put ≡ lineSize = length-of-bytes (take frameSize (drop used answers)) in
-        let fits : at + lineSize ≤ length out = omega (arith, so-far .long) in
+        let fits : lineSize * (line + 1) ≤ length out = omega (arith, so-far .long) in
         let test : eqb (getD (drop at out) 0 0) keptByte ≡ true = eq-eqb _ _ (first-here ∙ kept) in
         let front : take (lineSize * (line + 1)) out' ≡ take at out ++ put =
-        ap (λ k. take k out') (sym next-place)
-        ∙ ap (take (at + lineSize)) is
-        ∙ take-paste out at put lineSize (omega arith) (omega arith)
-        ∙ ap (λ l. take at out ++ l) (take-all lineSize put (omega arith))
+        front-with out out' put at lineSize (lineSize * (line + 1)) next-place long fits is
         in
         let back : drop (lineSize * (line + 1)) out' ≡ drop lineSize (drop at out) =
-        ap (λ k. drop k out') (sym next-place)
-        ∙ ap (drop (at + lineSize)) is
-        ∙ drop-paste out at put lineSize (omega arith) (omega arith)
+        back-with out out' put at lineSize (lineSize * (line + 1)) next-place long fits is
+        ∙ ap (λ k. drop k out) (sym next-place)
         ∙ sym (drop-drop lineSize at out)
         in
         let used-then : drop result answers ≡ drop frameSize (drop used answers) =
@@ -159,7 +156,7 @@ module _ (lines : ℕ) (before out answers : List ℕ) (line used : ℕ) (room :
         in
         record {
           few = omega arith;
-          long = ap length is ∙ length-paste out at put lineSize fits (omega arith) ∙ so-far .long;
+          long = long-with out out' put at lineSize (lineSize * (line + 1)) next-place long fits is ∙ so-far .long;
           left = rw back (omega (arith, puts .kept kept .0, left-with 1 (kept-first (lines - (line + 1)) (drop at out) answers test)));
           whole =
               rw (front, back, used-then, append-assoc (take at out) put (completed (lines - (line + 1)) (drop lineSize (drop at out)) (drop frameSize (drop used answers))))

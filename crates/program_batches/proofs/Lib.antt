@@ -1,4 +1,3 @@
-pub mod Cut
 pub mod Digits
 pub mod Framed
 pub mod Completed

@@ -5,37 +5,35 @@ use mathlib.Core.Path.{_≡_, refl, sym, ap, ap₂, _∙_}
 use mathlib.Core.List.{List, [], _∷_, _++_, map, map-append, append-nil}
 use Prim.Native.Nat.{ℕ, _+_, _-_, _*_, _≤_, _<_}
 use native.Mathlib.Omega.{arith}
-use lib.ListN.{length, take, drop, length-append, length-drop}
-use lib.Seq.{take-all, take-add, paste, take-paste, length-paste}
+use lib.ListN.{length, take, drop, length-append, length-take, length-drop}
+use lib.Seq.{take-add, paste}
 use Rattle.geometry.specs.Limits.{frameSize}
 use Rattle.text_hex.specs.Lines.{frameOf, lineOf, lineSize}
 use Rattle.text_hex.specs.declared.read.Reading.{Reading}
 use Rattle.text_hex.specs.declared.read.Reading.the-variants.{Frame, Bad}
+use Rattle.text_hex.proofs.Frames.{frame-of-other-length}
+use Rattle.text_hex.proofs.Fronts.{front-with, long-with}
 use Rattle.text_hex.proofs.Written.{length-of-line}
-use Rattle.text_lines.specs.Lines.{Stands, Holds, Gathers, ended, left, trim, piece, endBytes}
+use Rattle.text_lines.specs.Lines.{Stands, Holds, Gathers, ended, left, trim, piece}
 use Rattle.text_lines.specs.declared.Gathered.{Gathered}
 use Rattle.text_lines.specs.declared.Gathering.{Gathering}
 use Rattle.text_lines.proofs.Chunks.{rest-is}
-use Rattle.text_lines.proofs.Cut.{ended-append, left-append, ended-plain, left-plain, ended-line, left-line}
+use Rattle.text_lines.proofs.Held.{kept-tells}
+use Rattle.text_lines.proofs.Taken.{line-more, nothing-left, no-line-more, more-left}
 use Rattle.protocol.specs.Frames.{eightBytes, bytesOfAnswer}
 use Rattle.shape.specs.Nested.{joined}
 use Rattle.shape.proofs.Folds.{joined-append}
 use Rattle.program_batches.specs.Batch.{draftOf, bytesOf, PutsLine, ReadsLines, ReadsOn, RoomForLine}
 use Rattle.program_batches.specs.declared.Batch.{Batch}
-use Rattle.program_batches.proofs.Cut.{frame-of-held}
 
--- a buffer's front after a piece was pasted behind it
-module _ (out out' put : List ℕ) (at size next : ℕ) (ends : at + size ≡ next) (long : length put ≡ size) (room : next ≤ length out)
-    (is : out' ≡ paste out at put size) where
-  front-with : take next out' ≡ take at out ++ put
-  front-with =
-      ap (λ k. take k out') (sym ends)
-      ∙ ap (take (at + size)) is
-      ∙ take-paste out at put size (omega arith) (omega arith)
-      ∙ ap (λ l. take at out ++ l) (take-all size put (omega arith))
-
-  long-with : length out' ≡ length out
-  long-with = ap length is ∙ length-paste out at put size (omega arith) (omega arith)
+-- the kept bytes read as the line, where one byte more than the digits of a frame is kept: a line that was cut is too long to be one
+frame-of-held : (line : List ℕ) (s : Gathered) (keep : List ℕ) → Holds line s keep → lineSize ≤ length keep
+    → frameOf (take (s .kept) keep) ≡ frameOf line
+frame-of-held line s keep holds enough =
+    kept-tells frameOf line s keep holds
+    (λ longer.
+    sym (frame-of-other-length (take (length keep) line) (λ is. omega (arith, length-take (length keep) line)))
+    ∙ frame-of-other-length line (λ is. omega arith))
 
 module _ (line : List ℕ) (lines frames : ℕ) (out out' commands commands' : List ℕ) (room : lineSize * (lines + 1) ≤ length out)
     (room-for-frame : frameSize * (frames + 1) ≤ length commands) where
@@ -100,46 +98,6 @@ reads-none chunk before keep out commands =
       rest = λ gathered stands. stands;
     }
 
--- what bytes that were gathered behind others are to the lines
-module _ (chunk : List ℕ) (at : ℕ) (before : Gathered) (keep keep' : List ℕ) (g : Gathering) (gathers : Gathers false (drop at chunk) before keep keep' g)
-    (gathered : List ℕ) where
-  taken-by : (ends : Bool) → g .ended ≡ ends → take (at + g .taken) chunk ≡ take at chunk ++ (piece (drop at chunk) g ++ endBytes ends)
-  taken-by ends is =
-      take-add at (g .taken) chunk
-      ∙ ap (λ l. take at chunk ++ l) (gathers .taken ∙ ap (λ e. piece (drop at chunk) g ++ endBytes e) is)
-
-  -- where they end a line
-  line-more : g .ended ≡ true
-      → ended false gathered (take (at + g .taken) chunk)
-      ≡ ended false gathered (take at chunk) ++ (trim false (left gathered (take at chunk) ++ piece (drop at chunk) g) ∷ [])
-  line-more ends =
-      ap (ended false gathered) (taken-by true ends)
-      ∙ ended-append false gathered (take at chunk) (piece (drop at chunk) g ++ endBytes true)
-      ∙ ap (λ l. ended false gathered (take at chunk) ++ l) (ended-line false (left gathered (take at chunk)) (piece (drop at chunk) g) (gathers .plain))
-
-  nothing-left : g .ended ≡ true → left gathered (take (at + g .taken) chunk) ≡ []
-  nothing-left ends =
-      ap (left gathered) (taken-by true ends)
-      ∙ left-append gathered (take at chunk) (piece (drop at chunk) g ++ endBytes true)
-      ∙ left-line (left gathered (take at chunk)) (piece (drop at chunk) g) (gathers .plain)
-
-  -- and where they don't
-  all-plain : g .ended ≡ false → take (at + g .taken) chunk ≡ take at chunk ++ piece (drop at chunk) g
-  all-plain goes-on = taken-by false goes-on ∙ ap (λ l. take at chunk ++ l) (append-nil (piece (drop at chunk) g))
-
-  no-line-more : g .ended ≡ false → ended false gathered (take (at + g .taken) chunk) ≡ ended false gathered (take at chunk)
-  no-line-more goes-on =
-      ap (ended false gathered) (all-plain goes-on)
-      ∙ ended-append false gathered (take at chunk) (piece (drop at chunk) g)
-      ∙ ap (λ l. ended false gathered (take at chunk) ++ l) (ended-plain false (left gathered (take at chunk)) (piece (drop at chunk) g) (gathers .plain))
-      ∙ append-nil (ended false gathered (take at chunk))
-
-  more-left : g .ended ≡ false → left gathered (take (at + g .taken) chunk) ≡ left gathered (take at chunk) ++ piece (drop at chunk) g
-  more-left goes-on =
-      ap (left gathered) (all-plain goes-on)
-      ∙ left-append gathered (take at chunk) (piece (drop at chunk) g)
-      ∙ left-plain (left gathered (take at chunk)) (piece (drop at chunk) g) (gathers .plain)
-
 module _ (chunk : List ℕ) (batch : Batch) (keep keep' out out' commands commands' : List ℕ) (g : Gathering)
     (gathered-part : Gathers false (take (length chunk - batch .taken) (drop (batch .taken) chunk)) (batch .line) keep keep' g)
     (room : RoomForLine chunk batch out commands) where
@@ -174,7 +132,10 @@ module _ (chunk : List ℕ) (batch : Batch) (keep keep' out out' commands comman
             fewFrames = omega (arith, puts .one, r .fewFrames);
             same = gathers .same ∙ r .same;
             are = are;
-            rest = λ gathered stands. rw (nothing-left chunk (batch .taken) (batch .line) keep keep' g gathers gathered ends) (starts false keep');
+            rest =
+                λ gathered stands.
+                rw (take-add (batch .taken) (g .taken) chunk, nothing-left false (drop (batch .taken) chunk) (batch .line) keep keep' g gathers gathered (take (batch .taken) chunk) ends)
+                (starts false keep');
           }
         where
           are : (gathered : List ℕ) → Stands false gathered before keep₀ → lineSize ≤ length keep₀
@@ -189,7 +150,9 @@ module _ (chunk : List ℕ) (batch : Batch) (keep keep' out out' commands comman
               map-append frameOf (r .lines) (front ∷ [])
               ∙ ap₂ (λ rs l. rs ++ (l ∷ [])) (r .are gathered stands enough) reads-so
               ∙ sym (map-append frameOf (ended false gathered (take (batch .taken) chunk)) (line ∷ []))
-              ∙ ap (map frameOf) (sym (line-more chunk (batch .taken) (batch .line) keep keep' g gathers gathered ends))
+              ∙ ap (map frameOf)
+              (sym (line-more false (drop (batch .taken) chunk) (batch .line) keep keep' g gathers gathered (take (batch .taken) chunk) ends)
+              ∙ ap (ended false gathered) (sym (take-add (batch .taken) (g .taken) chunk)))
 
   -- no line has ended
   pub none-taken : g .ended ≡ false
@@ -211,10 +174,13 @@ module _ (chunk : List ℕ) (batch : Batch) (keep keep' out out' commands comman
               same = gathers .same ∙ r .same;
               are =
                   λ gathered stands enough.
-                  r .are gathered stands enough ∙ ap (map frameOf) (sym (no-line-more chunk (batch .taken) (batch .line) keep keep' g gathers gathered goes-on));
+                  r .are gathered stands enough
+                  ∙ ap (map frameOf)
+                  (sym (no-line-more false (drop (batch .taken) chunk) (batch .line) keep keep' g gathers gathered (take (batch .taken) chunk) goes-on)
+                  ∙ ap (ended false gathered) (sym (take-add (batch .taken) (g .taken) chunk)));
               rest =
                   λ gathered stands.
-                  rw (more-left chunk (batch .taken) (batch .line) keep keep' g gathers gathered goes-on)
+                  rw (take-add (batch .taken) (g .taken) chunk, more-left false (drop (batch .taken) chunk) (batch .line) keep keep' g gathers gathered (take (batch .taken) chunk) goes-on)
                   (gathers .stands (left gathered (take (batch .taken) chunk)) (r .rest gathered stands));
             };
         onward = omega (arith, some);

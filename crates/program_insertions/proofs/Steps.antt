@@ -6,17 +6,18 @@ use Prim.Native.Nat.{ℕ, _+_, _-_, _≤_, _<_, min}
 use native.Mathlib.Omega.{arith}
 use lib.ListN.{length, take, drop, length-append, length-drop}
 use borrow.Author.Tests.{lt-ltb, le-ltb}
-use lib.Seq.{take-all, take-add, paste, take-paste, length-paste}
+use lib.Seq.{take-add, paste}
 use Rattle.geometry.specs.Limits.{mostMarks, lastColumn}
 use Rattle.text_fixed_form.specs.Mark.{markOf}
 use Rattle.text_hex.specs.Lines.{lineOf, lineSize}
+use Rattle.text_hex.proofs.Fronts.{front-with, long-with}
 use Rattle.text_hex.proofs.Written.{length-of-line}
-use Rattle.text_lines.specs.Lines.{Stands, Holds, Gathers, Finishes, ended, left, trim, piece, endBytes, linesOf}
+use Rattle.text_lines.specs.Lines.{Stands, Holds, Gathers, Finishes, ended, left, trim, piece, linesOf}
 use Rattle.text_lines.specs.declared.Gathered.{Gathered}
 use Rattle.text_lines.specs.declared.Gathering.{Gathering}
 use Rattle.text_lines.proofs.Chunks.{rest-is}
-use Rattle.text_lines.proofs.Cut.{ended-append, left-append, ended-plain, left-plain, ended-line, left-line}
 use Rattle.text_lines.proofs.Held.{no-last-line, last-line}
+use Rattle.text_lines.proofs.Taken.{line-more, nothing-left, no-line-more, more-left}
 use Rattle.protocol.specs.Commands.{insertCode}
 use Rattle.program_insertions.specs.Frames.{file, frameAt, framesOfFile, framesFrom, framesOfLines, frameAfter}
 use Rattle.program_insertions.specs.Stream.{FileFollows, FileStarts, FileTakesIn, GoesOn, PutsFrame, FileEnds}
@@ -40,40 +41,6 @@ frames-with lines line earlier out out' many filled result s keep holds columns 
 
 module _ (bytes : List ℕ) (before : Progress) (keep keep' out out' : List ℕ) (filled : ℕ) (g : Gathering)
     (gathers : Gathers true bytes (before .line) keep keep' g) where
-  -- the bytes that were taken, as the piece and what ended it
-  taken-by : (ends : Bool) → g .ended ≡ ends → take (g .taken) bytes ≡ piece bytes g ++ endBytes ends
-  taken-by ends is = gathers .taken ∙ ap (λ e. piece bytes g ++ endBytes e) is
-
-  module _ (input : List ℕ) where
-    -- the lines and the rest after the bytes that were taken, where they end a line
-    line-more : g .ended ≡ true
-        → ended true [] (input ++ take (g .taken) bytes) ≡ ended true [] input ++ (trim true (left [] input ++ piece bytes g) ∷ [])
-    line-more ends =
-        ended-append true [] input (take (g .taken) bytes)
-        ∙ ap (λ l. ended true [] input ++ l)
-        (ap (ended true (left [] input)) (taken-by true ends) ∙ ended-line true (left [] input) (piece bytes g) (gathers .plain))
-
-    nothing-left : g .ended ≡ true → left [] (input ++ take (g .taken) bytes) ≡ []
-    nothing-left ends =
-        left-append [] input (take (g .taken) bytes)
-        ∙ ap (left (left [] input)) (taken-by true ends)
-        ∙ left-line (left [] input) (piece bytes g) (gathers .plain)
-
-    -- and where they don't
-    no-line-more : g .ended ≡ false → ended true [] (input ++ take (g .taken) bytes) ≡ ended true [] input
-    no-line-more goes-on =
-        ended-append true [] input (take (g .taken) bytes)
-        ∙ ap (λ l. ended true [] input ++ l)
-        (ap (ended true (left [] input)) (taken-by false goes-on ∙ append-nil (piece bytes g))
-        ∙ ended-plain true (left [] input) (piece bytes g) (gathers .plain))
-        ∙ append-nil (ended true [] input)
-
-    more-left : g .ended ≡ false → left [] (input ++ take (g .taken) bytes) ≡ left [] input ++ piece bytes g
-    more-left goes-on =
-        left-append [] input (take (g .taken) bytes)
-        ∙ ap (left (left [] input)) (taken-by false goes-on ∙ append-nil (piece bytes g))
-        ∙ left-plain (left [] input) (piece bytes g) (gathers .plain)
-
   -- a line has ended: its frame has been put
   pub line-taken : (start : Gathered) (front : List ℕ) (result lines : ℕ) → ((returns : Bool) (kept : List ℕ) → Stands returns [] start kept) → g .ended ≡ true
       → front ≡ take (g .line .kept) keep' → PutsFrame front (before .lines) out out' filled result → lines ≡ min mostMarks (before .lines + 1)
@@ -95,10 +62,10 @@ module _ (bytes : List ℕ) (before : Progress) (keep keep' out out' : List ℕ)
       follows input earlier f =
           let line : List ℕ = trim true (left [] input ++ piece bytes g) in
           let columns : lastColumn ≤ length keep' = omega (arith, gathers .same, f .columns) in
-          let more = line-more input ends in
+          let more = line-more true bytes (before .line) keep keep' g gathers [] input ends in
           let held : Holds line (g .line) keep' = gathers .stands (left [] input) (f .line) .line in
           record {
-            line = rw (nothing-left input ends) (file-starts true keep');
+            line = rw (nothing-left true bytes (before .line) keep keep' g gathers [] input ends) (file-starts true keep');
             columns = columns;
             lines = rw (more, length-append) (omega (arith, f .lines));
             room = put .room;
@@ -126,11 +93,11 @@ module _ (bytes : List ℕ) (before : Progress) (keep keep' out out' : List ℕ)
           → FileFollows (input ++ take (g .taken) bytes) earlier (record { line = g .line; lines = before .lines }) keep' out filled
       follows input earlier f =
           record {
-            line = rw (more-left input goes-on) (gathers .stands (left [] input) (f .line));
+            line = rw (more-left true bytes (before .line) keep keep' g gathers [] input goes-on) (gathers .stands (left [] input) (f .line));
             columns = omega (arith, gathers .same, f .columns);
-            lines = rw (no-line-more input goes-on) (f .lines);
+            lines = rw (no-line-more true bytes (before .line) keep keep' g gathers [] input goes-on) (f .lines);
             room = f .room;
-            frames = ap framesOfLines (no-line-more input goes-on) ∙ f .frames;
+            frames = ap framesOfLines (no-line-more true bytes (before .line) keep keep' g gathers [] input goes-on) ∙ f .frames;
           }
 
 -- nothing has been read
@@ -180,14 +147,13 @@ unfolding frameAfter frameAt
 frame-put line lines out out' filled mark room below is put =
     let frame : List ℕ = lineOf insertCode file mark 0 (lines + 1) in
     let long : length frame ≡ lineSize = length-of-line insertCode file mark 0 (lines + 1) in
-    let same : length out' ≡ length out = ap length put ∙ length-paste out filled frame lineSize room (omega arith) in
+    let same : length out' ≡ length out = long-with out out' frame filled lineSize (filled + lineSize) refl long room put in
     record {
       long = same;
       room = omega arith;
       frame =
-          ap (take (filled + lineSize)) put
-          ∙ take-paste out filled frame lineSize (omega arith) (omega arith)
-          ∙ ap (λ l. take filled out ++ l) (take-all lineSize frame (omega arith) ∙ rw (lt-ltb lines mostMarks below, is));
+          front-with out out' frame filled lineSize (filled + lineSize) refl long room put
+          ∙ ap (λ l. take filled out ++ l) (rw (lt-ltb lines mostMarks below, is));
     }
 
 -- past the limit nothing is written
