@@ -3,7 +3,7 @@
 use mathlib.Core.Bool.{true, false}
 use mathlib.Core.Path.{_≡_, refl, sym, ap, _∙_}
 use mathlib.Core.List.{List, [], _∷_, _++_, append-assoc, append-nil}
-use Prim.Native.Nat.{ℕ, suc, _+_, _-_, _*_, _≤_, _<_}
+use Prim.Native.Nat.{ℕ, suc, _+_, _-_, _*_, _^_, _≤_, _<_}
 use native.Mathlib.Nat.{add-zero, sub-zero}
 use native.Mathlib.Decide.{ℕ-discrete}
 use native.Mathlib.Omega.{arith}
@@ -11,6 +11,8 @@ use borrow.Author.Tests.{eq-eqb, ne-eqb}
 use lib.Dec.{eqb}
 use lib.ListN.{length, getD, take, drop}
 use lib.Seq.{take-at, drop-at, take-add, drop-drop, getD-drop, paste}
+use mir.Syntax.{w64}
+use mir.Val.{Fits}
 use Rattle.geometry.specs.Limits.{frameSize}
 use Rattle.text_hex.specs.Digits.{digitOf, digitsOf}
 use Rattle.text_hex.specs.Lines.{lineOf, lineSize, digitsOfFrame}
@@ -56,6 +58,18 @@ length-of-bytes : (bytes : List ℕ) → length (lineOfBytes bytes) ≡ lineSize
 unfolding lineOfBytes
 length-of-bytes bytes =
     length-of-line (commandOf bytes .code) (commandOf bytes .name) (commandOf bytes .symbol) (commandOf bytes .fourth) (commandOf bytes .number)
+
+-- a place that wasn't kept stays as it is
+pub place-kept-none : (at used : ℕ) (out answers : List ℕ) → (getD out at 0 ≡ keptByte → ⊥) → PutsAnswer at used out out answers used
+place-kept-none at used out answers other = record { kept = λ kept. absurd (other kept); other = λ _. (refl, refl) }
+
+-- at a place that was kept the caller has an answer
+module _ (at used : ℕ) (out answers : List ℕ) (there : getD out at 0 ≡ keptByte → used + frameSize ≤ length answers) (kept : getD out at 0 ≡ keptByte) where
+  pub answer-given : used + frameSize ≤ length answers
+  answer-given = there kept
+
+  pub answer-fits : length answers < 2 ^ 64 → Fits w64 (used + frameSize)
+  answer-fits long = record { fits = omega (arith, answer-given) }
 
 -- an answer was read and put at a place that was kept
 pub answer-put : (at used : ℕ) (out out' answers : List ℕ) (answer : Command) → getD out at 0 ≡ keptByte → answer ≡ commandOf (take frameSize (drop used answers))
@@ -122,7 +136,11 @@ module _ (lines : ℕ) (before out answers : List ℕ) (line used : ℕ) (room :
       → used + frameSize * (first + keptIn (lines - (line + 1)) (drop lineSize (drop (lineSize * line) out))) ≤ length answers
   left-with first is = omega (arith, so-far .left, ap (λ n. keptIn n (drop (lineSize * line) out)) one-left, is)
 
-  -- where the place is kept, an answer is there
+  -- the place is there
+  pub place-there : lineSize * line + lineSize ≤ length out
+  place-there = omega (arith, so-far .long)
+
+  -- where it is kept, an answer is there
   pub answer-there : getD out (lineSize * line) 0 ≡ keptByte → used + frameSize ≤ length answers
   answer-there kept =
       omega (arith, left-with 1 (kept-first (lines - (line + 1)) (drop (lineSize * line) out) answers (eq-eqb _ _ (first-here ∙ kept))))
@@ -141,7 +159,7 @@ module _ (lines : ℕ) (before out answers : List ℕ) (line used : ℕ) (room :
         let put : List ℕ = lineOfBytes (take frameSize (drop used answers)) in
         let is : out' ≡ paste out at put lineSize = puts .kept kept .1 in
         let long : length put ≡ lineSize = length-of-bytes (take frameSize (drop used answers)) in
-        let fits : lineSize * (line + 1) ≤ length out = omega (arith, so-far .long) in
+        let fits : lineSize * (line + 1) ≤ length out = omega (arith, place-there) in
         let test : eqb (getD (drop at out) 0 0) keptByte ≡ true = eq-eqb _ _ (first-here ∙ kept) in
         let front : take (lineSize * (line + 1)) out' ≡ take at out ++ put =
         front-with out out' put at lineSize (lineSize * (line + 1)) next-place long fits is

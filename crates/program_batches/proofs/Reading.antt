@@ -3,10 +3,12 @@
 use mathlib.Core.Bool.{Bool, true, false}
 use mathlib.Core.Path.{_≡_, refl, sym, ap, ap₂, _∙_}
 use mathlib.Core.List.{List, [], _∷_, _++_, map, map-append, append-nil}
-use Prim.Native.Nat.{ℕ, _+_, _-_, _*_, _≤_, _<_}
+use Prim.Native.Nat.{ℕ, _+_, _-_, _*_, _/_, _^_, _≤_, _<_}
 use native.Mathlib.Omega.{arith}
 use lib.ListN.{length, take, drop, length-append, length-take, length-drop}
 use lib.Seq.{take-add, paste}
+use mir.Syntax.{w64}
+use mir.Val.{Fits}
 use Rattle.geometry.specs.Limits.{frameSize}
 use Rattle.text_hex.specs.Lines.{frameOf, lineOf, lineSize}
 use Rattle.text_hex.specs.declared.read.Reading.{Reading}
@@ -23,7 +25,7 @@ use Rattle.text_lines.proofs.Taken.{line-more, nothing-left, no-line-more, more
 use Rattle.protocol.specs.Frames.{eightBytes, bytesOfAnswer}
 use Rattle.shape.specs.Nested.{joined}
 use Rattle.shape.proofs.Folds.{joined-append}
-use Rattle.program_batches.specs.Batch.{draftOf, bytesOf, PutsLine, ReadsLines, ReadsOn, RoomForLine}
+use Rattle.program_batches.specs.Batch.{draftOf, bytesOf, PutsLine, ReadsLines, BatchRead, ReadsOn, RoomForLine}
 use Rattle.program_batches.specs.declared.Batch.{Batch}
 
 -- the kept bytes read as the line, where one byte more than the digits of a frame is kept: a line that was cut is too long to be one
@@ -36,14 +38,15 @@ frame-of-held line s keep holds enough =
     ∙ frame-of-other-length line (λ is. omega arith))
 
 module _ (line : List ℕ) (lines frames : ℕ) (out out' commands commands' : List ℕ) (room : lineSize * (lines + 1) ≤ length out)
-    (room-for-frame : frameSize * (frames + 1) ≤ length commands) where
+    (room-for-frame : frameSize * (frames + 1) ≤ length commands) (reading : Reading) (reads : reading ≡ frameOf line) where
   -- a bad line was answered
-  pub bad-put : frameOf line ≡ Bad → out' ≡ paste out (lineSize * lines) (lineOf 255 0 0 0 0) lineSize
+  pub bad-put : reading ≡ Bad → out' ≡ paste out (lineSize * lines) (lineOf 255 0 0 0 0) lineSize
       → PutsLine line lines frames out out' commands commands frames
   bad-put bad put =
+      let is : frameOf line ≡ Bad = sym reads ∙ bad in
       record {
-        draft = rw bad (front-with out out' (lineOf 255 0 0 0 0) (lineSize * lines) lineSize (lineSize * (lines + 1)) (omega arith) (length-of-line 255 0 0 0 0) room put);
-        command = rw bad (sym (append-nil (take (frameSize * frames) commands)));
+        draft = rw is (front-with out out' (lineOf 255 0 0 0 0) (lineSize * lines) lineSize (lineSize * (lines + 1)) (omega arith) (length-of-line 255 0 0 0 0) room put);
+        command = rw is (sym (append-nil (take (frameSize * frames) commands)));
         room = omega arith;
         one = omega arith;
         sameOut = long-with out out' (lineOf 255 0 0 0 0) (lineSize * lines) lineSize (lineSize * (lines + 1)) (omega arith) (length-of-line 255 0 0 0 0) room put;
@@ -51,12 +54,13 @@ module _ (line : List ℕ) (lines frames : ℕ) (out out' commands commands' : L
       }
 
   -- a frame has its place and joined the commands
-  pub frame-put : (code name symbol fourth number : ℕ) → frameOf line ≡ Frame code name symbol fourth number
+  pub frame-put : (code name symbol fourth number : ℕ) → reading ≡ Frame code name symbol fourth number
       → out' ≡ paste out (lineSize * lines) (lineOf 0 0 0 0 0) lineSize
       → commands' ≡ paste commands (frameSize * frames) (bytesOfAnswer (record { status = code; name = name; symbol = symbol; depth = fourth; value = number })) frameSize
       → PutsLine line lines frames out out' commands commands' (frames + 1)
   unfolding bytesOfAnswer
-  frame-put code name symbol fourth number is put joins =
+  frame-put code name symbol fourth number frame put joins =
+      let is : frameOf line ≡ Frame code name symbol fourth number = sym reads ∙ frame in
       let bytes : List ℕ = eightBytes code name symbol fourth number in
       let same : length commands' ≡ length commands =
       long-with commands commands' bytes (frameSize * frames) frameSize (frameSize * (frames + 1)) (omega arith) refl room-for-frame joins
@@ -79,7 +83,7 @@ joined-more f lines line =
     ∙ ap (λ l. joined f (map frameOf lines) ++ l) (append-nil (f (frameOf line)))
 
 -- nothing has been read
-pub reads-none : (chunk : List ℕ) (before : Gathered) (keep out commands : List ℕ)
+reads-none : (chunk : List ℕ) (before : Gathered) (keep out commands : List ℕ)
     → ReadsLines chunk before keep keep out commands (record { taken = 0; lines = 0; frames = 0; line = before })
 unfolding ended left
 reads-none chunk before keep out commands =
@@ -98,6 +102,10 @@ reads-none chunk before keep out commands =
       rest = λ gathered stands. stands;
     }
 
+-- the number of a line that there is room for
+pub line-fits : (chunk : List ℕ) (batch : Batch) (out commands : List ℕ) → RoomForLine chunk batch out commands → length out < 2 ^ 64 → Fits w64 (batch .lines + 1)
+line-fits chunk batch out commands room long = record { fits = omega (arith, room .line) }
+
 module _ (chunk : List ℕ) (batch : Batch) (keep keep' out out' commands commands' : List ℕ) (g : Gathering)
     (gathered-part : Gathers false (take (length chunk - batch .taken) (drop (batch .taken) chunk)) (batch .line) keep keep' g)
     (room : RoomForLine chunk batch out commands) where
@@ -107,8 +115,8 @@ module _ (chunk : List ℕ) (batch : Batch) (keep keep' out out' commands comman
   some : 0 < g .taken
   some = gathers .onward (omega (arith, room .within, length-drop (batch .taken) chunk))
 
-  pub step-within : batch .taken + g .taken ≤ length chunk
-  step-within = omega (arith, room .within, gathers .within, length-drop (batch .taken) chunk)
+  within-chunk : batch .taken + g .taken ≤ length chunk
+  within-chunk = omega (arith, room .within, gathers .within, length-drop (batch .taken) chunk)
 
   -- a line has ended and was put
   pub line-taken : (start : Gathered) (front : List ℕ) (frames : ℕ) → ((returns : Bool) (kept : List ℕ) → Stands returns [] start kept) → g .ended ≡ true
@@ -127,7 +135,7 @@ module _ (chunk : List ℕ) (batch : Batch) (keep keep' out out' commands comman
             bytes = puts .command ∙ ap (λ l. l ++ bytesOf (frameOf front)) (r .bytes) ∙ sym (joined-more bytesOf (r .lines) front);
             room = omega (arith, room .line, puts .sameOut);
             roomForFrames = puts .room;
-            within = step-within;
+            within = within-chunk;
             few = omega (arith, some, r .few);
             fewFrames = omega (arith, puts .one, r .fewFrames);
             same = gathers .same ∙ r .same;
@@ -168,7 +176,7 @@ module _ (chunk : List ℕ) (batch : Batch) (keep keep' out out' commands comman
               bytes = r .bytes;
               room = r .room;
               roomForFrames = r .roomForFrames;
-              within = step-within;
+              within = within-chunk;
               few = omega (arith, r .few);
               fewFrames = r .fewFrames;
               same = gathers .same ∙ r .same;
@@ -187,3 +195,44 @@ module _ (chunk : List ℕ) (batch : Batch) (keep keep' out out' commands comman
         sameOut = refl;
         sameCommands = refl;
       }
+
+-- The loop: what has been read of a chunk so far, into buffers that keep their lengths.
+pub record ReadSoFar (chunk : List ℕ) (before : Gathered) (keep keep' out out' commands commands' : List ℕ) (batch : Batch) : Type 0 where
+  pub reads : ReadsLines chunk before keep keep' out' commands' batch
+  pub sameOut : length out' ≡ length out
+  pub sameCommands : length commands' ≡ length commands
+
+pub read-none : (chunk : List ℕ) (before : Gathered) (keep out commands : List ℕ)
+    → ReadSoFar chunk before keep keep out out commands commands (record { taken = 0; lines = 0; frames = 0; line = before })
+read-none chunk before keep out commands = record { reads = reads-none chunk before keep out commands; sameOut = refl; sameCommands = refl }
+
+module _ (chunk : List ℕ) (before : Gathered) (keep keep' out out' commands commands' : List ℕ) (batch : Batch)
+    (so-far : ReadSoFar chunk before keep keep' out out' commands commands' batch) where
+  -- one step more
+  module _ (keep'' out'' commands'' : List ℕ) (result : Batch) (on : ReadsOn chunk batch keep' keep'' out' out'' commands' commands'' result) where
+    pub read-more : ReadSoFar chunk before keep keep'' out out'' commands commands'' result
+    read-more =
+        record {
+          reads = on .reads before keep (so-far .reads);
+          sameOut = on .sameOut ∙ so-far .sameOut;
+          sameCommands = on .sameCommands ∙ so-far .sameCommands;
+        }
+
+    pub read-less : length chunk - result .taken < length chunk - batch .taken
+    read-less = omega (arith, on .onward, on .reads before keep (so-far .reads) .within)
+
+  read-with : (lineSize ≤ length out → frameSize ≤ length commands → 0 < length chunk → 0 < batch .taken)
+      → BatchRead chunk before keep keep' out out' commands commands' batch
+  read-with onward = record { reads = so-far .reads; onward = onward; sameOut = so-far .sameOut; sameCommands = so-far .sameCommands }
+
+  -- there is no room for a line more, so one was read where there was room for one
+  pub lines-full : length out' / lineSize ≤ batch .lines → BatchRead chunk before keep keep' out out' commands commands' batch
+  lines-full full = read-with (λ room more some. omega (arith, so-far .sameOut, so-far .reads .few))
+
+  -- or none for a frame more
+  pub frames-full : length commands' / frameSize ≤ batch .frames → BatchRead chunk before keep keep' out out' commands commands' batch
+  frames-full full = read-with (λ room more some. omega (arith, so-far .sameCommands, so-far .reads .few, so-far .reads .fewFrames))
+
+  -- or the chunk is at its end
+  pub all-read : length chunk ≤ batch .taken → BatchRead chunk before keep keep' out out' commands commands' batch
+  all-read over = read-with (λ room more some. omega arith)

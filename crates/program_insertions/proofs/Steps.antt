@@ -2,9 +2,9 @@
 use mathlib.Core.Bool.{Bool, true, false}
 use mathlib.Core.Path.{_≡_, refl, sym, ap, _∙_}
 use mathlib.Core.List.{List, [], _∷_, _++_, append-nil, append-assoc}
-use Prim.Native.Nat.{ℕ, _+_, _-_, _≤_, _<_, min}
+use Prim.Native.Nat.{ℕ, zero, suc, _+_, _-_, _≤_, _<_, min}
 use native.Mathlib.Omega.{arith}
-use lib.ListN.{length, take, drop, length-append, length-drop}
+use lib.ListN.{length, take, drop, length-append}
 use borrow.Author.Tests.{lt-ltb, le-ltb}
 use lib.Seq.{take-add, paste}
 use Rattle.geometry.specs.Limits.{mostMarks, lastColumn}
@@ -15,7 +15,7 @@ use Rattle.text_hex.proofs.Written.{length-of-line}
 use Rattle.text_lines.specs.Lines.{Stands, Holds, Gathers, Finishes, ended, left, trim, piece, linesOf}
 use Rattle.text_lines.specs.declared.Gathered.{Gathered}
 use Rattle.text_lines.specs.declared.Gathering.{Gathering}
-use Rattle.text_lines.proofs.Chunks.{rest-is}
+use Rattle.text_lines.proofs.Chunks.{rest-is, rest-some, step-within, step-less}
 use Rattle.text_lines.proofs.Held.{no-last-line, last-line}
 use Rattle.text_lines.proofs.Taken.{line-more, nothing-left, no-line-more, more-left}
 use Rattle.protocol.specs.Commands.{insertCode}
@@ -110,35 +110,74 @@ file-starts line stands =
           record { line = stands true keep; columns = columns; lines = refl; room = omega arith; frames = refl };
     }
 
+-- what a chunk fills of an empty buffer stands within it
+pub filled-within : (chunk : List ℕ) (before : Progress) (keep keep' out out' : List ℕ) (result : FileTaken) → GoesOn chunk before keep keep' out out' 0 result
+    → result .filled ≤ length out'
+filled-within chunk before keep keep' out out' result on = on .takes .room (omega arith)
+
+-- The loop: what has been taken of a chunk so far follows, and nothing is filled where nothing was taken.
+pub record TakenSoFar (chunk : List ℕ) (before : Progress) (keep keep' out out' : List ℕ) (at filled : ℕ) (progress : Progress) : Type 0 where
+  pub takes : FileTakesIn chunk before keep keep' out out' 0 (record { taken = at; filled = filled; after = progress })
+  pub none : at ≡ 0 → filled ≡ 0
+  pub room : filled ≤ length out'
+
 -- no byte has been taken yet
-pub none-yet : (chunk : List ℕ) (before : Progress) (keep out : List ℕ)
-    → FileTakesIn chunk before keep keep out out 0 (record { taken = 0; filled = 0; after = before })
-none-yet chunk before keep out =
+pub taken-none : (chunk : List ℕ) (before : Progress) (keep out : List ℕ) → TakenSoFar chunk before keep keep out out 0 0 before
+taken-none chunk before keep out =
     record {
-      within = omega arith;
-      same = refl;
-      long = refl;
-      room = λ room. room;
-      follows = λ input earlier f. rw append-nil f;
+      takes = record {
+        within = omega arith;
+        same = refl;
+        long = refl;
+        room = λ room. room;
+        follows = λ input earlier f. rw append-nil f;
+      };
+      none = λ nothing. refl;
+      room = omega arith;
     }
 
--- two steps, one after the other
-pub both-taken : (chunk : List ℕ) (before between : Progress) (keep keep₁ keep₂ out out₁ out₂ : List ℕ) (at filled : ℕ) (step : FileTaken)
-    → FileTakesIn chunk before keep keep₁ out out₁ 0 (record { taken = at; filled = filled; after = between })
-    → FileTakesIn (take (length chunk - at) (drop at chunk)) between keep₁ keep₂ out₁ out₂ filled step
-    → FileTakesIn chunk before keep keep₂ out out₂ 0 (record { taken = at + step .taken; filled = step .filled; after = step .after })
-both-taken chunk before between keep keep₁ keep₂ out out₁ out₂ at filled step so-far part =
-    let next : FileTakesIn (drop at chunk) between keep₁ keep₂ out₁ out₂ filled step = rw (rest-is chunk at) at part in
-    record {
-      within = omega (arith, so-far .within, next .within, length-drop at chunk);
-      same = next .same ∙ so-far .same;
-      long = next .long ∙ so-far .long;
-      room = λ room. next .room (omega (arith, so-far .room room));
-      follows =
-          λ input earlier f.
-          rw (take-add at (step .taken) chunk, ← append-assoc input (take at chunk) (take (step .taken) (drop at chunk)))
-          (next .follows (input ++ take at chunk) earlier (so-far .follows input earlier f));
-    }
+-- where something is filled, something was taken
+started : (at filled : ℕ) → (at ≡ 0 → filled ≡ 0) → 0 < filled → 0 < at
+started zero filled none some = omega (arith, none refl)
+started (suc at) filled none some = omega arith
+
+module _ (chunk : List ℕ) (before between : Progress) (keep keep₁ out out₁ : List ℕ) (at filled : ℕ)
+    (so-far : TakenSoFar chunk before keep keep₁ out out₁ at filled between) where
+  -- a step more, from where bytes and room were left
+  module _ (keep₂ out₂ : List ℕ) (step : FileTaken) (part : GoesOn (take (length chunk - at) (drop at chunk)) between keep₁ keep₂ out₁ out₂ filled step)
+      (below : at < length chunk) (room : lineSize ≤ length out₁ - filled) where
+    some : 0 < step .taken
+    some = part .onward (omega arith) (rest-some chunk at below)
+
+    pub taken-less : length chunk - (at + step .taken) < length chunk - at
+    taken-less = step-less chunk at (step .taken) (part .takes .within) below some
+
+    pub taken-more : TakenSoFar chunk before keep keep₂ out out₂ (at + step .taken) (step .filled) (step .after)
+    taken-more =
+        let next : FileTakesIn (drop at chunk) between keep₁ keep₂ out₁ out₂ filled step = rw (rest-is chunk at) at (part .takes) in
+        record {
+          takes = record {
+            within = step-within chunk at (step .taken) (part .takes .within) below;
+            same = next .same ∙ so-far .takes .same;
+            long = next .long ∙ so-far .takes .long;
+            room = λ _. next .room (so-far .room);
+            follows =
+                λ input earlier f.
+                rw (take-add at (step .taken) chunk, ← append-assoc input (take at chunk) (take (step .taken) (drop at chunk)))
+                (next .follows (input ++ take at chunk) earlier (so-far .takes .follows input earlier f));
+          };
+          none = λ nothing. absurd (omega (arith, some));
+          room = next .room (so-far .room);
+        }
+
+  -- there is no room for a frame more
+  pub room-used : length out₁ - filled < lineSize → GoesOn chunk before keep keep₁ out out₁ 0 (record { taken = at; filled = filled; after = between })
+  room-used full =
+      record { takes = so-far .takes; onward = λ room some. started at filled (so-far .none) (omega (arith, so-far .takes .long)) }
+
+  -- the chunk is at its end
+  pub chunk-used : length chunk ≤ at → GoesOn chunk before keep keep₁ out out₁ 0 (record { taken = at; filled = filled; after = between })
+  chunk-used over = record { takes = so-far .takes; onward = λ room some. omega arith }
 
 -- the frame of a line below the limit has been written behind what was filled
 pub frame-put : (line : List ℕ) (lines : ℕ) (out out' : List ℕ) (filled : ℕ) (mark : ℕ) → filled + lineSize ≤ length out → lines < mostMarks → mark ≡ markOf line
