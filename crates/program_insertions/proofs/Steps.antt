@@ -110,10 +110,16 @@ file-starts line stands =
           record { line = stands true keep; columns = columns; lines = refl; room = omega arith; frames = refl };
     }
 
--- what a chunk fills of an empty buffer stands within it
+-- A whole chunk, taken in step by step into an empty buffer: what each step fills stands within the buffer, and each leaves less.
 pub filled-within : (chunk : List ℕ) (before : Progress) (keep keep' out out' : List ℕ) (result : FileTaken) → GoesOn chunk before keep keep' out out' 0 result
     → result .filled ≤ length out'
 filled-within chunk before keep keep' out out' result on = on .takes .room (omega arith)
+
+pub frames-less : (chunk : List ℕ) (at : ℕ) (before : Progress) (keep keep' out out' : List ℕ) (result : FileTaken)
+    → GoesOn (take (length chunk - at) (drop at chunk)) before keep keep' out out' 0 result → lineSize ≤ length out → at < length chunk
+    → length chunk - (at + result .taken) < length chunk - at
+frames-less chunk at before keep keep' out out' result on room below =
+    step-less chunk at (result .taken) (on .takes .within) below (on .onward (omega arith) (rest-some chunk at below))
 
 -- The loop: what has been taken of a chunk so far follows, and nothing is filled where nothing was taken.
 pub record TakenSoFar (chunk : List ℕ) (before : Progress) (keep keep' out out' : List ℕ) (at filled : ℕ) (progress : Progress) : Type 0 where

@@ -46,8 +46,3 @@ module _ (chunk : List ℕ) (at : ℕ) where
 
     pub step-less : at < length chunk → 0 < taken → length chunk - (at + taken) < length chunk - at
     step-less below some = omega arith
-
-    -- something is taken where there is room, which there is
-    pub step-onward : (Room : Type 0) → Room → (Room → 0 < length (take (length chunk - at) (drop at chunk)) → 0 < taken) → at < length chunk
-        → length chunk - (at + taken) < length chunk - at
-    step-onward Room room onward below = step-less below (onward room (rest-some below))
