@@ -4,7 +4,7 @@ use mathlib.Core.Bool.{Bool, false}
 use mathlib.Core.Logic.{inr, ⊎-elim}
 use mathlib.Core.Path.{_≡_, refl, sym, ap, ap₂, _∙_}
 use mathlib.Core.List.{List, [], _∷_, _++_, map, map-append, append-nil}
-use Prim.Native.Nat.{ℕ, _+_, _-_, _*_, _/_, _≤_}
+use Prim.Native.Nat.{ℕ, _+_, _-_, _*_, _/_, _≤_, _<_}
 use native.Mathlib.Decide.{ℕ-discrete}
 use native.Mathlib.Omega.{arith}
 use lib.ListN.{length, take, drop, length-map, take-append-drop}
@@ -24,6 +24,7 @@ use Rattle.call_run.proofs.Following.{runs-sound, runs-long}
 use Rattle.call_run.proofs.Outcomes.{length-cases, all-passed, one-status, room-by-machine, meaning-by-machine}
 use Rattle.text_lines.specs.Lines.{Stands, lineFeed, trims, trim, ended, left, linesOf}
 use Rattle.text_lines.specs.declared.Gathered.{Gathered}
+use Rattle.text_lines.proofs.Chunks.{rest-some, step-less}
 use Rattle.text_lines.proofs.Cut.{ended-append, left-append}
 use Rattle.text_lines.proofs.Held.{no-last-line, last-line}
 use Rattle.machine.specs.Machine.{trees}
@@ -48,7 +49,10 @@ front-and-rest : (out front : List ℕ) (n : ℕ) → take n out ≡ front → o
 front-and-rest out front n is = sym (take-append-drop n out) ∙ ap (λ l. l ++ drop n out) is
 
 module _ (p q commands room answers out out' : List ℕ) (lines : ℕ) (r : Outcome) (ran : Ran p commands room r q answers) (asks : Asks commands out lines)
-    (fits : length commands ≤ length room) (done : Completes lines out out' answers) where
+    (enough : longestCommands ≤ length room) (done : Completes lines out out' answers) where
+  fits : length commands ≤ length room
+  fits = omega (arith, asks .allowed .most)
+
   answered : Sound p → Answered p commands room q answers (r .count)
   answered sound =
       ran .accepted (one-status p commands room (r .status) 0 (ran .status) (inr (inr (inr (inr (refl, sound .allowed, asks .allowed, fits, sound))))))
@@ -138,20 +142,21 @@ written-with : (input written front : List ℕ) (before : Gathered) (keep p : Li
 written-with input written front before keep p more f is =
     ap₂ (λ w l. w ++ l) (f .lines) (is ∙ ap (λ s. joined lineOfAnswer (answersToLines s more)) (f .meant)) ∙ sym (written-append (readFrom input) more)
 
--- a chunk's lines were read and answered
-module _ (chunk : List ℕ) (before : Gathered) (keep keep' p q out out₁ out₂ zeros commands : List ℕ) (batch : Batch) (filled : ℕ)
-    (read : BatchRead chunk before keep keep' out out₁ zeros commands batch) (room : frameSize ≤ length zeros) (few : length commands ≤ longestCommands) where
+-- a chunk's lines were read into buffers for the commands of one call
+module _ (chunk : List ℕ) (before : Gathered) (keep keep' out out₁ zeros commands : List ℕ) (batch : Batch)
+    (read : BatchRead chunk before keep keep' out out₁ zeros commands batch) (enough : longestCommands ≤ length zeros) (few : length zeros ≤ longestCommands) where
   pub asks-batch : Asks (take (frameSize * batch .frames) commands) out₁ (batch .lines)
   asks-batch =
       let r = read .reads in
-      asks-lines (r .lines) commands out₁ (batch .lines) (batch .frames) (r .many) (r .drafts) (r .bytes) (r .room) (r .roomForFrames) few
+      asks-lines (r .lines) commands out₁ (batch .lines) (batch .frames) (r .many) (r .drafts) (r .bytes) (r .room) (r .roomForFrames) (omega (arith, read .sameCommands))
 
-  pub chunk-taken : filled ≡ lineSize * batch .lines → AnswersLines p q (take (frameSize * batch .frames) commands) out₁ out₂ (batch .lines)
+  -- and answered
+  pub chunk-taken : (p q out₂ : List ℕ) (filled : ℕ) → filled ≡ lineSize * batch .lines → AnswersLines p q (take (frameSize * batch .frames) commands) out₁ out₂ (batch .lines)
       → SessionTakesIn chunk before keep keep' p q out out₂ (record { taken = batch .taken; filled = filled; line = batch .line })
-  chunk-taken is done =
+  chunk-taken p q out₂ filled is done =
       record {
         within = read .reads .within;
-        onward = λ line some. read .onward line room some;
+        onward = λ line some. read .onward line (omega arith) some;
         room = omega (arith, read .reads .room, done .long);
         same = read .reads .same;
         samePool = done .samePool;
@@ -185,6 +190,13 @@ module _ (chunk : List ℕ) (before : Gathered) (keep keep' p q out out₁ out�
                 ∙ ap (stateAfterLines atStart) (sym all-read);
             lines = written-with input written (take filled out₂) before keep p more f front ∙ ap writtenFor (sym all-read);
           }
+
+-- a chunk, taken in step by step: each leaves less
+pub answers-less : (chunk : List ℕ) (at : ℕ) (before : Gathered) (keep keep' p q out out' : List ℕ) (result : SessionTaken)
+    → SessionTakesIn (take (length chunk - at) (drop at chunk)) before keep keep' p q out out' result → lineSize ≤ length out → at < length chunk
+    → length chunk - (at + result .taken) < length chunk - at
+answers-less chunk at before keep keep' p q out out' result takes room below =
+    step-less chunk at (result .taken) (takes .within) below (takes .onward room (rest-some chunk at below))
 
 -- the input is over, and ended with a line feed or is empty
 pub ends-whole : (before : Gathered) (keep p out : List ℕ) → before .length ≡ 0 → SessionEnds before keep keep p p out out 0
