@@ -13,7 +13,7 @@ use Rattle.geometry.specs.Limits.{frameSize}
 use Rattle.text_hex.specs.Lines.{frameOf, lineOf, lineSize}
 use Rattle.text_hex.specs.declared.read.Reading.{Reading}
 use Rattle.text_hex.specs.declared.read.Reading.the-variants.{Frame, Bad}
-use Rattle.text_hex.proofs.Frames.{frame-of-other-length}
+use Rattle.text_hex.proofs.Lines.{frame-of-other-length}
 use Rattle.text_hex.proofs.Fronts.{front-with, long-with}
 use Rattle.text_hex.proofs.Written.{length-of-line}
 use Rattle.text_lines.specs.Lines.{Stands, Holds, Gathers, ended, left, trim, piece}

@@ -9,7 +9,7 @@ use lib.ListN.{length, getD, drop, drop-of-length-le}
 use mir.Syntax.{w32}
 use mir.Val.{Fits}
 use Rattle.text_hex.specs.Digits.{valueOf, allDigits, numberAfter, numberOfDigits}
-use Rattle.text_hex.proofs.Numbers.{all-digits-from, number-from, number-grows, number-fits}
+use Rattle.text_hex.proofs.Digits.{all-digits-from, number-from, number-grows, number-fits}
 
 module _ (bytes : List ℕ) (i : ℕ) where
   -- a byte that is no digit settles it

@@ -9,7 +9,7 @@ use lib.Seq.{length-take-le}
 use Rattle.geometry.specs.Limits.{frameSize, longestCommands}
 use Rattle.text_hex.specs.Lines.{lineSize}
 use Rattle.text_lines.proofs.Chunks.{step-within, step-fits}
-use Rattle.program_sessions.proofs.Following.{answers-less}
+use Rattle.program_sessions.proofs.Stream.{answers-less}
 use Rattle.answers.proofs.answer_chunk.Statement.{statement}
 use Rattle.answers.proofs.answer_chunk.Tie as tie
 

@@ -7,7 +7,7 @@ use lib.ListN.{length}
 use lib.Seq.{length-take-le}
 use Rattle.text_hex.specs.Lines.{lineSize}
 use Rattle.text_lines.proofs.Chunks.{step-within, step-fits}
-use Rattle.program_insertions.proofs.Steps.{filled-within, frames-less}
+use Rattle.program_insertions.proofs.Stream.{filled-within, frames-less}
 use Rattle.marks.proofs.write_frames.Statement.{statement}
 use Rattle.marks.proofs.write_frames.Tie as tie
 

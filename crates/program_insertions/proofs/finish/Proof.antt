@@ -1,6 +1,6 @@
 -- `program_insertions::finish` meets its contract: by whether a line without a line feed is left.
 use borrow.Author.Needs.{needs}
-use Rattle.program_insertions.proofs.Steps.{ends-whole, ends-open}
+use Rattle.program_insertions.proofs.Stream.{ends-whole, ends-open}
 use Rattle.program_insertions.proofs.finish.Statement.{statement}
 use Rattle.program_insertions.proofs.finish.Tie as tie
 

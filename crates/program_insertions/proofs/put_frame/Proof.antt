@@ -1,6 +1,6 @@
 -- `program_insertions::put_frame` meets its contract: below the limit the written line is the frame, past it nothing is written.
 use borrow.Author.Needs.{needs}
-use Rattle.program_insertions.proofs.Steps.{frame-put, no-frame-put}
+use Rattle.program_insertions.proofs.Stream.{frame-put, no-frame-put}
 use Rattle.program_insertions.proofs.put_frame.Statement.{statement}
 use Rattle.program_insertions.proofs.put_frame.Tie as tie
 

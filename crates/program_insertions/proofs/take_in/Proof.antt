@@ -5,7 +5,7 @@ use native.Mathlib.Omega.{arith}
 use borrow.Author.Needs.{needs}
 use lib.ListN.{length}
 use Rattle.text_lines.proofs.Chunks.{step-fits}
-use Rattle.program_insertions.proofs.Steps.{TakenSoFar, taken-none, taken-more, taken-less, room-used, chunk-used}
+use Rattle.program_insertions.proofs.Stream.{TakenSoFar, taken-none, taken-more, taken-less, room-used, chunk-used}
 use Rattle.program_insertions.proofs.take_in.Statement.{statement}
 use Rattle.program_insertions.proofs.take_in.Tie as tie
 

@@ -1,6 +1,6 @@
 -- `program_insertions::take_line` meets its contract: by whether the bytes taken end a line.
 use borrow.Author.Needs.{needs}
-use Rattle.program_insertions.proofs.Steps.{line-taken, none-taken}
+use Rattle.program_insertions.proofs.Stream.{line-taken, none-taken}
 use Rattle.program_insertions.proofs.take_line.Statement.{statement}
 use Rattle.program_insertions.proofs.take_line.Tie as tie
 

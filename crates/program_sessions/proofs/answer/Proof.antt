@@ -1,7 +1,7 @@
 -- `program_sessions::answer` meets its contract: the call is accepted if the pool is sound, and its answers complete the drafts.
 use mathlib.Core.Path.{refl}
 use borrow.Author.Needs.{needs}
-use Rattle.program_sessions.proofs.Following.{lines-answered}
+use Rattle.program_sessions.proofs.Call.{lines-answered}
 use Rattle.program_sessions.proofs.answer.Statement.{statement}
 use Rattle.program_sessions.proofs.answer.Tie as tie
 

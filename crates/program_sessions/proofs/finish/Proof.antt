@@ -1,6 +1,6 @@
 -- `program_sessions::finish` meets its contract: by whether a line without a line feed is left.
 use borrow.Author.Needs.{needs}
-use Rattle.program_sessions.proofs.Following.{ends-whole, ends-open}
+use Rattle.program_sessions.proofs.Stream.{ends-whole, ends-open}
 use Rattle.program_sessions.proofs.finish.Statement.{statement}
 use Rattle.program_sessions.proofs.finish.Tie as tie
 

@@ -2,7 +2,7 @@
 use mathlib.Core.Path.{sym}
 use borrow.Author.Needs.{needs}
 use lib.Seq.{length-take-le}
-use Rattle.program_sessions.proofs.Following.{asks-batch, chunk-taken}
+use Rattle.program_sessions.proofs.Stream.{asks-batch, chunk-taken}
 use Rattle.program_sessions.proofs.take_in.Statement.{statement}
 use Rattle.program_sessions.proofs.take_in.Tie as tie
 

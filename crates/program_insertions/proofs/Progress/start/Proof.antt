@@ -1,6 +1,6 @@
 -- `program_insertions::Progress::start` meets its contract: no byte stands for no line.
 use borrow.Author.Needs.{needs}
-use Rattle.program_insertions.proofs.Steps.{file-starts}
+use Rattle.program_insertions.proofs.Stream.{file-starts}
 use Rattle.program_insertions.proofs.Progress.start.Statement.{statement}
 use Rattle.program_insertions.proofs.Progress.start.Tie as tie
 

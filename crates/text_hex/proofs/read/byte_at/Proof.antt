@@ -1,7 +1,7 @@
 -- `text_hex::read::byte_at` meets its contract: the part of the line that it reads is the two digits, whose number is below 256.
 use mathlib.Core.Path.{_∙_}
 use borrow.Author.Needs.{needs}
-use Rattle.text_hex.proofs.Frames.{all-digits-part, part-is, part-short, byte-fits}
+use Rattle.text_hex.proofs.Lines.{all-digits-part, part-is, part-short, byte-fits}
 use Rattle.text_hex.proofs.read.byte_at.Statement.{statement}
 use Rattle.text_hex.proofs.read.byte_at.Tie as tie
 

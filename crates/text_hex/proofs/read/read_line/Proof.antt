@@ -2,7 +2,7 @@
 use mathlib.Core.Path.{sym, _∙_}
 use borrow.Author.Needs.{needs}
 use borrow.Author.Tests.{not-true}
-use Rattle.text_hex.proofs.Frames.{all-digits-part, part-short, frame-of-other-length, frame-of-no-digits, digits-told, frame-read}
+use Rattle.text_hex.proofs.Lines.{all-digits-part, part-short, frame-of-other-length, frame-of-no-digits, digits-told, frame-read}
 use Rattle.text_hex.proofs.read.read_line.Statement.{statement}
 use Rattle.text_hex.proofs.read.read_line.Tie as tie
 

@@ -23,7 +23,7 @@ use Rattle.program_insertions.specs.Frames.{file, frameAt, framesOfFile,
 use Rattle.program_insertions.specs.Stream.{FileFollows, FileStarts, FileTakesIn, GoesOn, PutsFrame, FileEnds}
 use Rattle.program_insertions.specs.declared.Progress.{Progress}
 use Rattle.program_insertions.specs.declared.FileTaken.{FileTaken}
-use Rattle.program_insertions.proofs.OneMore.{frames-of-one-more, frame-after-limit, frame-of-line-held}
+use Rattle.program_insertions.proofs.Frames.{frames-of-one-more, frame-after-limit, frame-of-line-held}
 
 -- the frames with one line more, where the frame of what is kept of it has been put
 frames-with : (lines : List (List ℕ)) (line earlier out out' : List ℕ) (many filled result : ℕ) (s : Gathered) (keep : List ℕ)

@@ -1,140 +1,38 @@
--- From chunk to chunk. The lines of a call that was accepted are answered from the state that the pool stood for; put behind the lines
--- before them, they are the session so far.
+-- From chunk to chunk: the lines of a call, put behind the lines before them, are the session so far. At the end the last line is taken in
+-- as if its line feed had come.
 use mathlib.Core.Bool.{Bool, false}
-use mathlib.Core.Logic.{inr, ⊎-elim}
+use mathlib.Core.Logic.{⊎-elim}
 use mathlib.Core.Path.{_≡_, refl, sym, ap, ap₂, _∙_}
 use mathlib.Core.List.{List, [], _∷_, _++_, map, map-append, append-nil}
 use Prim.Native.Nat.{ℕ, _+_, _-_, _*_, _/_, _≤_, _<_}
-use native.Mathlib.Decide.{ℕ-discrete}
 use native.Mathlib.Omega.{arith}
-use lib.ListN.{length, take, drop, length-map, take-append-drop}
-use lib.Seq.{length-take-le}
-use Rattle.program_batches.specs.Answers.{lineOfAnswer}
-use Rattle.program_batches.specs.Batch.{draftOf, bytesOf, keptIn, completed, BatchRead, Completes}
-use Rattle.program_batches.specs.declared.Batch.{Batch}
-use Rattle.program_batches.proofs.Completed.{kept-in-drafts}
-use Rattle.program_batches.proofs.Framed.{commandsRead, fits-lines, length-of-batch}
+use lib.ListN.{length, take, drop}
 use Rattle.geometry.specs.Limits.{frameSize, longestCommands, directorySize, blockSize}
-use Rattle.text_hex.specs.Lines.{frameOf, lineSize}
-use Rattle.text_hex.specs.declared.read.Reading.{Reading}
-use Rattle.call_run.specs.Calls.{Formats, Answered, Ran}
-use Rattle.call_run.specs.Runs.{commandsIn}
-use Rattle.call_tests.specs.declared.Outcome.{Outcome}
-use Rattle.call_run.proofs.Following.{runs-sound, runs-long}
-use Rattle.call_run.proofs.Outcomes.{length-cases, all-passed, one-status, room-by-machine, meaning-by-machine}
+use Rattle.protocol.specs.State.{freshState}
+use Rattle.shape.specs.Nested.{joined}
+use Rattle.shape.specs.Trees.{Tree}
+use Rattle.pool.specs.Formatted.{formatted}
+use Rattle.pool.specs.Meaning.{meaning}
+use Rattle.pool.specs.Sound.{LengthAllowed}
+use Rattle.pool.proofs.FormattedSound.{length-formatted, formatted-sound, formatted-meaning}
+use Rattle.call_run.specs.Calls.{Formats}
+use Rattle.call_run.proofs.Outcomes.{length-cases}
 use Rattle.text_lines.specs.Lines.{Stands, lineFeed, trims, trim, ended, left, linesOf}
 use Rattle.text_lines.specs.declared.Gathered.{Gathered}
 use Rattle.text_lines.proofs.Chunks.{rest-some, step-less}
 use Rattle.text_lines.proofs.Cut.{ended-append, left-append}
 use Rattle.text_lines.proofs.Held.{no-last-line, last-line}
-use Rattle.machine.specs.Machine.{trees}
-use Rattle.pool.specs.Formatted.{formatted}
-use Rattle.pool.specs.Meaning.{meaning}
-use Rattle.pool.specs.Sound.{LengthAllowed, Sound}
-use Rattle.pool.proofs.FormattedSound.{length-formatted, formatted-sound, formatted-meaning}
-use Rattle.protocol.specs.Frames.{bytesOfAnswer}
-use Rattle.protocol.specs.Respond.{answersTo, stateAfter}
-use Rattle.protocol.specs.State as State
-use Rattle.shape.specs.Nested.{joined}
-use Rattle.shape.specs.Trees.{Tree}
-use Rattle.shape.proofs.Folds.{joined-append}
+use Rattle.text_hex.specs.Lines.{frameOf, lineSize}
+use Rattle.text_hex.specs.declared.read.Reading.{Reading}
+use Rattle.program_batches.specs.Answers.{lineOfAnswer}
+use Rattle.program_batches.specs.Batch.{BatchRead}
+use Rattle.program_batches.specs.declared.Batch.{Batch}
 use Rattle.program_sessions.specs.Call.{Asks, AnswersLines}
-use Rattle.program_sessions.specs.Session.{responseTo, answersToLines, stateAfterLines, atStart, writtenFor, sessionOf}
+use Rattle.program_sessions.specs.Session.{answersToLines, stateAfterLines, atStart, writtenFor, sessionOf}
 use Rattle.program_sessions.specs.Stream.{readFrom, SessionFollows, SessionStarts, SessionTakesIn, SessionEnds}
 use Rattle.program_sessions.specs.declared.SessionTaken.{SessionTaken}
-use Rattle.program_sessions.proofs.Called.{commands-in-batch, state-after-lines, completed-drafts}
-
--- what is at the front of a buffer, in front of its rest
-front-and-rest : (out front : List ℕ) (n : ℕ) → take n out ≡ front → out ≡ front ++ drop n out
-front-and-rest out front n is = sym (take-append-drop n out) ∙ ap (λ l. l ++ drop n out) is
-
-module _ (p q commands room answers out out' : List ℕ) (lines : ℕ) (r : Outcome) (ran : Ran p commands room r q answers) (asks : Asks commands out lines)
-    (enough : longestCommands ≤ length room) (done : Completes lines out out' answers) where
-  fits : length commands ≤ length room
-  fits = omega (arith, asks .allowed .most)
-
-  answered : Sound p → Answered p commands room q answers (r .count)
-  answered sound =
-      ran .accepted (one-status p commands room (r .status) 0 (ran .status) (inr (inr (inr (inr (refl, sound .allowed, asks .allowed, fits, sound))))))
-
-  -- a call that is refused leaves the pool as it was, and one that isn't leaves its length
-  refused : (r .status ≡ 0 → ⊥) → q ≡ p
-  refused other = ran .refused other .1
-
-  same-pool : Dec (r .status ≡ 0) → length q ≡ length p
-  same-pool (yes zero) = runs-long (commandsIn commands) p q (ran .accepted zero .answers) (ran .accepted zero .runs)
-  same-pool (no other) = ap length (refused other)
-
-  -- the commands are those of the lines that are frames
-  frames-run : (ls : List (List ℕ)) → commands ≡ joined bytesOf (map frameOf ls) → commandsIn commands ≡ commandsRead (map frameOf ls)
-  frames-run ls is = ap commandsIn is ∙ commands-in-batch (map frameOf ls) (fits-lines ls)
-
-  -- the lines were run and answered
-  pub lines-answered : AnswersLines p q commands out out' lines
-  lines-answered =
-      record {
-        long = done .long;
-        samePool = same-pool (ℕ-discrete (r .status) 0);
-        refused = λ unsound. refused (λ zero. unsound (all-passed p commands room (r .status) zero (ran .status) .sound));
-        sound = λ sound. runs-sound (commandsIn commands) p q (answered sound .answers) sound (answered sound .runs);
-        state =
-            λ ls is sound.
-            meaning-by-machine p commands room q answers (r .count) (answered sound) ∙ ap (stateAfter trees (meaning p)) (frames-run ls is) ∙ sym (state-after-lines (map frameOf ls) (meaning p));
-        answers = all-answered;
-      }
-    where
-      all-answered : (ls : List (List ℕ)) → commands ≡ joined bytesOf (map frameOf ls) → lines ≡ length ls
-          → take (lineSize * lines) out ≡ joined draftOf (map frameOf ls) → Sound p
-          → take (lineSize * lines) out' ≡ joined lineOfAnswer (answersToLines (meaning p) (map frameOf ls))
-      all-answered ls is many drafts sound =
-          let rs : List Reading = map frameOf ls in
-          let given : answers ≡ joined bytesOfAnswer (answersTo trees (meaning p) (commandsRead rs)) ++ drop (length commands) room =
-          room-by-machine p commands room q answers (r .count) (answered sound)
-          ∙ ap (λ cs. joined bytesOfAnswer (answersTo trees (meaning p) cs) ++ drop (length commands) room) (frames-run ls is)
-          in
-          let count : lines ≡ length rs = many ∙ sym (length-map ls frameOf) in
-          done .whole
-          ∙ ap (λ n. completed n out answers) count
-          ∙ ap₂ (completed (length rs)) (front-and-rest out (joined draftOf rs) (lineSize * lines) drafts) given
-          ∙ completed-drafts rs (meaning p) (drop (lineSize * lines) out) (drop (length commands) room)
-
--- what a call needs stands in the buffers of lines that were put
-pub asks-lines : (ls : List (List ℕ)) (commands out : List ℕ) (lines frames : ℕ) → lines ≡ length ls
-    → take (lineSize * lines) out ≡ joined draftOf (map frameOf ls) → take (frameSize * frames) commands ≡ joined bytesOf (map frameOf ls)
-    → lineSize * lines ≤ length out → frameSize * frames ≤ length commands → length commands ≤ longestCommands
-    → Asks (take (frameSize * frames) commands) out lines
-asks-lines ls commands out lines frames many drafts bytes room room-for-frames few =
-    let rs : List Reading = map frameOf ls in
-    let long : length (take (frameSize * frames) commands) ≡ frameSize * frames = length-take-le (frameSize * frames) commands room-for-frames in
-    let kept : keptIn lines out ≡ length (commandsRead rs) =
-    ap (λ n. keptIn n out) (many ∙ sym (length-map ls frameOf))
-    ∙ ap (keptIn (length rs)) (front-and-rest out (joined draftOf rs) (lineSize * lines) drafts)
-    ∙ kept-in-drafts rs (drop (lineSize * lines) out)
-    in
-    record {
-      allowed = record { whole = rw long (omega arith); most = omega arith };
-      room = room;
-      kept = omega (arith, kept, ap length bytes, length-of-batch rs);
-    }
-
--- lines behind others
-state-append : (rs more : List Reading) (s : State.State Tree) → stateAfterLines s (rs ++ more) ≡ stateAfterLines (stateAfterLines s rs) more
-unfolding stateAfterLines
-state-append [] more s = refl
-state-append (r ∷ rs) more s = state-append rs more (responseTo s r .state)
-
-answers-append : (rs more : List Reading) (s : State.State Tree)
-    → answersToLines s (rs ++ more) ≡ answersToLines s rs ++ answersToLines (stateAfterLines s rs) more
-unfolding stateAfterLines answersToLines
-answers-append [] more s = refl
-answers-append (r ∷ rs) more s = ap (λ l. responseTo s r .answer ∷ l) (answers-append rs more (responseTo s r .state))
-
-written-append : (rs more : List Reading)
-    → writtenFor (rs ++ more) ≡ writtenFor rs ++ joined lineOfAnswer (answersToLines (stateAfterLines atStart rs) more)
-unfolding writtenFor
-written-append rs more =
-    ap (joined lineOfAnswer) (answers-append rs more atStart)
-    ∙ joined-append lineOfAnswer (answersToLines atStart rs) (answersToLines (stateAfterLines atStart rs) more)
+use Rattle.program_sessions.proofs.Call.{asks-lines}
+use Rattle.program_sessions.proofs.Session.{state-append, written-append}
 
 -- the lines of a call, written behind what was written before
 written-with : (input written front : List ℕ) (before : Gathered) (keep p : List ℕ) (more : List Reading) → SessionFollows input written before keep p
@@ -268,7 +166,7 @@ session-starts p q status line formats stands =
             line = stands false keep;
             room = enough;
             sound = rw formatted-now (formatted-sound (length p) allowed);
-            meant = ap meaning formatted-now ∙ formatted-meaning (length p) allowed ∙ ap (λ n. State.freshState {A = Tree} ((n - directorySize) / blockSize)) is;
+            meant = ap meaning formatted-now ∙ formatted-meaning (length p) allowed ∙ ap (λ n. freshState {A = Tree} ((n - directorySize) / blockSize)) is;
             lines = refl;
           };
     }

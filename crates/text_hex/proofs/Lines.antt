@@ -15,7 +15,7 @@ use Rattle.text_hex.specs.Digits.{valueOf, allDigits, numberOfDigits, di
 use Rattle.text_hex.specs.Lines.{lineDigits, spelled, frameOf, numbersOf, digitsOfFrame}
 use Rattle.text_hex.specs.declared.read.Reading.the-variants.{Frame, Bad}
 use Rattle.text_hex.proofs.Written.{length-of-frame}
-use Rattle.text_hex.proofs.Numbers.{first-of-both, second-of-both, all-digits-append, digits-are-digits, length-of-digits, number-fits, number-of-digits}
+use Rattle.text_hex.proofs.Digits.{first-of-both, second-of-both, all-digits-append, digits-are-digits, length-of-digits, number-fits, number-of-digits}
 
 -- digits stay digits in a part of the line
 all-digits-drop : (many : ℕ) (bytes : List ℕ) → allDigits bytes ≡ true → allDigits (drop many bytes) ≡ true
