@@ -81,10 +81,11 @@ fn take_line(
     let line = gathering.line;
     if ended {
         let kept = line.kept;
+        let lines_then = lines + 1;
         let frames = put_line(first_bytes(keep, kept), out, lines, commands, frames);
         return Batch {
             taken,
-            lines: lines + 1,
+            lines: lines_then,
             frames,
             line: Gathered::start(),
         };

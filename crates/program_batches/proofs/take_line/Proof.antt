@@ -14,10 +14,9 @@ take-line-spec =
     (λ c. search needs)
     (λ c κs. search needs)
     (λ c. search step-fits)  -- add-taken
+    (λ c. search line-fits)  -- add-lines-then
     (λ c κs. search needs)
     (λ c κs. search needs)
-    -- what the function was given lies too far back for search
-    (λ c. let start = c .before .before .before .before .before .before .before .before .before .before .before .before .before .before .before .before .before .before .before .before .before in search (line-fits, start .pre, start .good .1 .1 .1 .0))  -- add-t29
     (λ c κs. search needs)
     (λ c. search needs)
     (λ c. search needs)
