@@ -12,11 +12,11 @@ use Rattle.text_fixed_form.specs.Mark.{markOf}
 use Rattle.text_hex.specs.Lines.{lineOf, lineSize}
 use Rattle.text_hex.proofs.Fronts.{front-with, long-with}
 use Rattle.text_hex.proofs.Written.{length-of-line}
-use Rattle.text_lines.specs.Lines.{Stands, Holds, Gathers, Finishes, ended, left, trim, piece, linesOf}
+use Rattle.text_lines.specs.Lines.{Stands, Holds, Gathers, Finishes, ended, left, trim, piece}
 use Rattle.text_lines.specs.declared.Gathered.{Gathered}
 use Rattle.text_lines.specs.declared.Gathering.{Gathering}
 use Rattle.text_lines.proofs.Chunks.{rest-is, rest-some, step-within, step-less}
-use Rattle.text_lines.proofs.Held.{no-last-line, last-line}
+use Rattle.text_lines.proofs.Held.{lines-all-ended, lines-one-open}
 use Rattle.text_lines.proofs.Taken.{line-more, nothing-left, no-line-more, more-left}
 use Rattle.protocol.specs.Commands.{insertCode}
 use Rattle.program_insertions.specs.Frames.{file, frameAt, framesOfFile, framesFrom, framesOfLines, frameAfter}
@@ -211,7 +211,7 @@ no-frame-put line lines out filled room over =
 module _ (before : Progress) (keep keep' out out' : List ℕ) (last : Gathered) (finishes : Finishes (before .line) keep keep' last) where
   -- the input ends with a line feed, or is empty
   pub ends-whole : last .length ≡ 0 → FileEnds before keep keep' out out 0
-  unfolding framesOfFile linesOf
+  unfolding framesOfFile
   ends-whole none =
       record {
         same = finishes .same;
@@ -219,16 +219,13 @@ module _ (before : Progress) (keep keep' out out' : List ℕ) (last : Gathered) 
         room = omega arith;
         frames =
             λ input earlier f.
-            ap (λ l. framesOfLines (ended true [] input ++ l))
-            (no-last-line (left [] input) last keep' (finishes .line true (left [] input) (f .line)) none)
-            ∙ ap framesOfLines (append-nil (ended true [] input))
-            ∙ f .frames;
+            ap framesOfLines (lines-all-ended true input last keep' (finishes .line true (left [] input) (f .line)) none) ∙ f .frames;
       }
 
   -- a last line has no line feed
   pub ends-open : (front : List ℕ) (result : ℕ) → (last .length ≡ 0 → ⊥) → front ≡ take (last .kept) keep' → PutsFrame front (before .lines) out out' 0 result
       → FileEnds before keep keep' out out' result
-  unfolding framesOfFile linesOf
+  unfolding framesOfFile
   ends-open front result some is-front put =
       record {
         same = finishes .same;
@@ -237,7 +234,7 @@ module _ (before : Progress) (keep keep' out out' : List ℕ) (last : Gathered) 
         frames =
             λ input earlier f.
             let held : Holds (left [] input) last keep' = finishes .line true (left [] input) (f .line) in
-            ap (λ l. framesOfLines (ended true [] input ++ l)) (last-line (left [] input) last keep' held (omega (arith, some)))
+            ap framesOfLines (lines-one-open true input last keep' held some)
             ∙ frames-with (ended true [] input) (left [] input) earlier out out' (before .lines) 0 result last keep' held
             (omega (arith, finishes .same, f .columns)) (f .lines) (f .frames) (rw is-front at put);
       }

@@ -21,7 +21,7 @@ use Rattle.text_lines.specs.Lines.{Stands, lineFeed, trims, trim, ended, left, 
 use Rattle.text_lines.specs.declared.Gathered.{Gathered}
 use Rattle.text_lines.proofs.Chunks.{rest-some, step-less}
 use Rattle.text_lines.proofs.Cut.{ended-append, left-append}
-use Rattle.text_lines.proofs.Held.{no-last-line, last-line}
+use Rattle.text_lines.proofs.Held.{lines-all-ended, lines-one-open}
 use Rattle.text_hex.specs.Lines.{frameOf, lineSize}
 use Rattle.text_hex.specs.declared.read.Reading.{Reading}
 use Rattle.program_batches.specs.Answers.{lineOfAnswer}
@@ -98,7 +98,7 @@ answers-less chunk at before keep keep' p q out out' result takes room below =
 
 -- the input is over, and ended with a line feed or is empty
 pub ends-whole : (before : Gathered) (keep p out : List ℕ) → before .length ≡ 0 → SessionEnds before keep keep p p out out 0
-unfolding sessionOf linesOf trim trims
+unfolding sessionOf trim trims
 ends-whole before keep p out none =
     record {
       room = omega arith;
@@ -109,8 +109,7 @@ ends-whole before keep p out none =
       over =
           λ room input written f.
           let all-read : map frameOf (linesOf false input) ≡ readFrom input =
-          ap (λ l. map frameOf (ended false [] input ++ l)) (no-last-line (left [] input) before keep (f .line .line) none)
-          ∙ ap (map frameOf) (append-nil (ended false [] input))
+          ap (map frameOf) (lines-all-ended false input before keep (f .line .line) none)
           in
           record {
             sound = f .sound;
@@ -122,7 +121,7 @@ ends-whole before keep p out none =
 -- the input is over, and a line feed was taken in for the one that its last line lacks
 pub ends-open : (before : Gathered) (keep keep' p q out out' : List ℕ) (taken : SessionTaken) → (before .length ≡ 0 → ⊥)
     → SessionTakesIn (lineFeed ∷ []) before keep keep' p q out out' taken → SessionEnds before keep keep' p q out out' (taken .filled)
-unfolding sessionOf linesOf ended trim trims
+unfolding sessionOf ended trim trims
 ends-open before keep keep' p q out out' taken some takes =
     record {
       room = takes .room;
@@ -137,8 +136,7 @@ ends-open before keep keep' p q out out' taken some takes =
           rw one at (takes .follows input written f)
           in
           let all-read : map frameOf (linesOf false input) ≡ readFrom (input ++ (lineFeed ∷ [])) =
-          ap (λ l. map frameOf (ended false [] input ++ l)) (last-line (left [] input) before keep (f .line .line) (omega (arith, some)))
-          ∙ ap (map frameOf) (sym (ended-append false [] input (lineFeed ∷ [])))
+          ap (map frameOf) (lines-one-open false input before keep (f .line .line) some ∙ sym (ended-append false [] input (lineFeed ∷ [])))
           in
           record {
             sound = then .sound;

@@ -1,7 +1,7 @@
--- A line that is held: with one byte more, what its kept bytes tell of it, and whether it is a last line.
-use mathlib.Core.Bool.{false}
+-- A line that is held: with one byte more, what its kept bytes tell of it, and whether it is a line that no line feed ends.
+use mathlib.Core.Bool.{Bool, false}
 use mathlib.Core.Path.{_≡_, refl, ap, sym, _∙_}
-use mathlib.Core.List.{List, [], _∷_, _++_}
+use mathlib.Core.List.{List, [], _∷_, _++_, append-nil}
 use Prim.Native.Nat.{ℕ, suc, _+_, _≤_, _<_, min}
 use native.Mathlib.Decide.{decLe}
 use native.Mathlib.Omega.{arith}
@@ -9,7 +9,7 @@ use native.Mathlib.Numerals.{add-one}
 use lib.ListN.{length, take, set, length-append, length-set}
 use lib.Seq.{take-suc-set, take-all, take-append-le}
 use Rattle.text_lines.specs.declared.Gathered.{Gathered}
-use Rattle.text_lines.specs.Lines.{mostLength, lastLine, Holds, Adds}
+use Rattle.text_lines.specs.Lines.{mostLength, ended, left, lastLine, linesOf, Holds, Adds}
 
 module _ (byte : ℕ) (before : Gathered) (keep : List ℕ) (n : ℕ) (counted : n ≡ min mostLength (before .length + 1)) where
   -- the buffer's front with the byte stored after it, where the whole line is in the buffer
@@ -70,10 +70,19 @@ nil-of-length : (line : List ℕ) → length line ≡ 0 → line ≡ []
 nil-of-length [] e = refl
 nil-of-length (b ∷ bs) e = absurd (omega arith)
 
--- the length tells whether there is a last line
-pub no-last-line : (line : List ℕ) (s : Gathered) (keep : List ℕ) → Holds line s keep → s .length ≡ 0 → lastLine line ≡ []
+no-last-line : (line : List ℕ) (s : Gathered) (keep : List ℕ) → Holds line s keep → s .length ≡ 0 → lastLine line ≡ []
 no-last-line line s keep h e = ap lastLine (nil-of-length line (omega arith))
 
-pub last-line : (line : List ℕ) (s : Gathered) (keep : List ℕ) → Holds line s keep → 0 < s .length → lastLine line ≡ line ∷ []
-last-line [] s keep h some = absurd (omega arith)
+last-line : (line : List ℕ) (s : Gathered) (keep : List ℕ) → Holds line s keep → (s .length ≡ 0 → ⊥) → lastLine line ≡ line ∷ []
+last-line [] s keep h some = absurd (some (omega arith))
 last-line (b ∷ bs) s keep h some = refl
+
+-- the length tells whether the input has a line more than those that end in it
+module _ (r : Bool) (input : List ℕ) (s : Gathered) (keep : List ℕ) (h : Holds (left [] input) s keep) where
+  pub lines-all-ended : s .length ≡ 0 → linesOf r input ≡ ended r [] input
+  unfolding linesOf
+  lines-all-ended none = ap (λ l. ended r [] input ++ l) (no-last-line (left [] input) s keep h none) ∙ append-nil (ended r [] input)
+
+  pub lines-one-open : (s .length ≡ 0 → ⊥) → linesOf r input ≡ ended r [] input ++ (left [] input ∷ [])
+  unfolding linesOf
+  lines-one-open some = ap (λ l. ended r [] input ++ l) (last-line (left [] input) s keep h some)

@@ -1,7 +1,6 @@
 -- `marks::write_frames` is safe and ends: each step takes a byte of the chunk, since out has room for a frame.
 use mathlib.Core.Path.{_≡_, sym}
-use mathlib.Core.List.{List}
-use Prim.Native.Nat.{ℕ, _-_, _≤_}
+use Prim.Native.Nat.{_-_, _≤_}
 use borrow.Author.Needs.{needs}
 use lib.ListN.{length}
 use lib.Seq.{length-take-le}

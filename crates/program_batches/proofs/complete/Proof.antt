@@ -1,7 +1,6 @@
 -- `program_batches::complete` meets its contract. The loop's invariant: what stands before, and what will be made of the rest, are the
 -- whole; the answers that are left suffice for the places that are.
 use Prim.Native.Nat.{_-_}
-use native.Mathlib.Omega.{arith}
 use borrow.Author.Needs.{needs}
 use Rattle.program_batches.proofs.Completed.{Completing, completing-none, place-there, answer-there, completing-more, completing-all}
 use Rattle.program_batches.proofs.complete.Statement.{statement}
