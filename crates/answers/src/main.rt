@@ -94,5 +94,5 @@ fn write_out(answers: &[u8]) -> bool {
 // bytes of one read: its frames are fewer than one call of the index takes
 const CHUNK: usize = 16384;
 
-// bytes of answers that are written at once: those to all frames of a read
-const ROOM: usize = 17408;
+// bytes of answers that are written at once: a line for each frame that one call of the index takes
+const ROOM: usize = LINE_SIZE * (Record::LONGEST_COMMANDS / Record::FRAME_SIZE);

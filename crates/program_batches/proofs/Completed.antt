@@ -3,19 +3,22 @@
 use mathlib.Core.Bool.{true, false}
 use mathlib.Core.Path.{_≡_, refl, sym, ap, _∙_}
 use mathlib.Core.List.{List, [], _∷_, _++_, append-assoc, append-nil}
-use Prim.Native.Nat.{ℕ, suc, _+_, _-_, _*_, _≤_, _<_}
+use Prim.Native.Nat.{ℕ, suc, _+_, _-_, _*_, _^_, _≤_, _<_}
 use native.Mathlib.Nat.{add-zero, sub-zero}
 use native.Mathlib.Decide.{ℕ-discrete}
 use native.Mathlib.Omega.{arith}
 use borrow.Author.Tests.{eq-eqb, ne-eqb}
 use lib.Dec.{eqb}
 use lib.ListN.{length, getD, take, drop}
-use lib.Seq.{take-at, drop-at, take-all, take-add, drop-drop, getD-drop, paste, length-paste, take-paste, drop-paste}
+use lib.Seq.{take-at, drop-at, take-add, drop-drop, getD-drop, paste}
+use mir.Syntax.{w64}
+use mir.Val.{Fits}
 use Rattle.geometry.specs.Limits.{frameSize}
 use Rattle.text_hex.specs.Digits.{digitOf, digitsOf}
 use Rattle.text_hex.specs.Lines.{lineOf, lineSize, digitsOfFrame}
 use Rattle.text_hex.specs.declared.read.Reading.{Reading}
 use Rattle.text_hex.specs.declared.read.Reading.the-variants.{Frame, Bad}
+use Rattle.text_hex.proofs.Fronts.{front-with, back-with, long-with}
 use Rattle.text_hex.proofs.Written.{length-of-line}
 use Rattle.protocol.specs.Frames.{answerOfBytes}
 use Rattle.protocol.specs.declared.Answer.{Answer}
@@ -55,6 +58,18 @@ length-of-bytes : (bytes : List ℕ) → length (lineOfBytes bytes) ≡ lineSize
 unfolding lineOfBytes
 length-of-bytes bytes =
     length-of-line (answerOfBytes bytes .status) (answerOfBytes bytes .name) (answerOfBytes bytes .symbol) (answerOfBytes bytes .depth) (answerOfBytes bytes .value)
+
+-- a place that wasn't kept stays as it is
+pub place-kept-none : (at used : ℕ) (out answers : List ℕ) → (getD out at 0 ≡ keptByte → ⊥) → PutsAnswer at used out out answers used
+place-kept-none at used out answers other = record { kept = λ kept. absurd (other kept); other = λ _. (refl, refl) }
+
+-- at a place that was kept the caller has an answer
+module _ (at used : ℕ) (out answers : List ℕ) (there : getD out at 0 ≡ keptByte → used + frameSize ≤ length answers) (kept : getD out at 0 ≡ keptByte) where
+  pub answer-given : used + frameSize ≤ length answers
+  answer-given = there kept
+
+  pub answer-fits : length answers < 2 ^ 64 → Fits w64 (used + frameSize)
+  answer-fits long = record { fits = omega (arith, answer-given) }
 
 -- an answer was read and put at a place that was kept
 pub answer-put : (at used : ℕ) (out out' answers : List ℕ) (answer : Answer) → getD out at 0 ≡ keptByte → answer ≡ answerOfBytes (take frameSize (drop used answers))
@@ -121,7 +136,11 @@ module _ (lines : ℕ) (before out answers : List ℕ) (line used : ℕ) (room :
       → used + frameSize * (first + keptIn (lines - (line + 1)) (drop lineSize (drop (lineSize * line) out))) ≤ length answers
   left-with first is = omega (arith, so-far .left, ap (λ n. keptIn n (drop (lineSize * line) out)) one-left, is)
 
-  -- where the place is kept, an answer is there
+  -- the place is there
+  pub place-there : lineSize * line + lineSize ≤ length out
+  place-there = omega (arith, so-far .long)
+
+  -- where it is kept, an answer is there
   pub answer-there : getD out (lineSize * line) 0 ≡ keptByte → used + frameSize ≤ length answers
   answer-there kept =
       omega (arith, left-with 1 (kept-first (lines - (line + 1)) (drop (lineSize * line) out) answers (eq-eqb _ _ (first-here ∙ kept))))
@@ -140,18 +159,14 @@ module _ (lines : ℕ) (before out answers : List ℕ) (line used : ℕ) (room :
         let put : List ℕ = lineOfBytes (take frameSize (drop used answers)) in
         let is : out' ≡ paste out at put lineSize = puts .kept kept .1 in
         let long : length put ≡ lineSize = length-of-bytes (take frameSize (drop used answers)) in
-        let fits : at + lineSize ≤ length out = omega (arith, so-far .long) in
+        let fits : lineSize * (line + 1) ≤ length out = omega (arith, place-there) in
         let test : eqb (getD (drop at out) 0 0) keptByte ≡ true = eq-eqb _ _ (first-here ∙ kept) in
         let front : take (lineSize * (line + 1)) out' ≡ take at out ++ put =
-        ap (λ k. take k out') (sym next-place)
-        ∙ ap (take (at + lineSize)) is
-        ∙ take-paste out at put lineSize (omega arith) (omega arith)
-        ∙ ap (λ l. take at out ++ l) (take-all lineSize put (omega arith))
+        front-with out out' put at lineSize (lineSize * (line + 1)) next-place long fits is
         in
         let back : drop (lineSize * (line + 1)) out' ≡ drop lineSize (drop at out) =
-        ap (λ k. drop k out') (sym next-place)
-        ∙ ap (drop (at + lineSize)) is
-        ∙ drop-paste out at put lineSize (omega arith) (omega arith)
+        back-with out out' put at lineSize (lineSize * (line + 1)) next-place long fits is
+        ∙ ap (λ k. drop k out) (sym next-place)
         ∙ sym (drop-drop lineSize at out)
         in
         let used-then : drop result answers ≡ drop frameSize (drop used answers) =
@@ -159,7 +174,7 @@ module _ (lines : ℕ) (before out answers : List ℕ) (line used : ℕ) (room :
         in
         record {
           few = omega arith;
-          long = ap length is ∙ length-paste out at put lineSize fits (omega arith) ∙ so-far .long;
+          long = long-with out out' put at lineSize (lineSize * (line + 1)) next-place long fits is ∙ so-far .long;
           left = rw back (omega (arith, puts .kept kept .0, left-with 1 (kept-first (lines - (line + 1)) (drop at out) answers test)));
           whole =
               rw (front, back, used-then, append-assoc (take at out) put (completed (lines - (line + 1)) (drop lineSize (drop at out)) (drop frameSize (drop used answers))))

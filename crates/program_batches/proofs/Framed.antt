@@ -11,8 +11,8 @@ use Rattle.text_hex.specs.Digits.{allDigits, numberOfDigits}
 use Rattle.text_hex.specs.Lines.{frameOf, spelled, lineDigits, isFrame}
 use Rattle.text_hex.specs.declared.read.Reading.{Reading}
 use Rattle.text_hex.specs.declared.read.Reading.the-variants.{Frame, Bad}
-use Rattle.text_hex.proofs.Frames.{all-digits-part}
-use Rattle.text_hex.proofs.Numbers.{second-of-both, number-fits}
+use Rattle.text_hex.proofs.Lines.{all-digits-part}
+use Rattle.text_hex.proofs.Digits.{second-of-both, number-fits}
 use Rattle.protocol.specs.Frames.{eightBytes, Fitting}
 use Rattle.protocol.specs.declared.Command.{Command}
 use Rattle.shape.specs.Nested.{joined}

@@ -1,5 +1,4 @@
-pub mod Cut
-pub mod Digits
+pub mod Answers
 pub mod Framed
 pub mod Completed
 pub mod Reading

@@ -94,7 +94,8 @@ completed (suc lines) draft answers =
 
 -- one place: where it was kept, the next eight bytes of answers stand there as a line
 pub record PutsAnswer (at used : ℕ) (out out' answers : List ℕ) (result : ℕ) : Type 0 where
-  pub kept : getD out at 0 ≡ keptByte → (result ≡ used + frameSize) × (out' ≡ paste out at (lineOfBytes (take frameSize (drop used answers))) lineSize)
+  pub kept : getD out at 0 ≡ keptByte
+      → (result ≡ used + frameSize) × (out' ≡ paste out at (lineOfBytes (take frameSize (drop used answers))) lineSize)
   pub other : (getD out at 0 ≡ keptByte → ⊥) → (result ≡ used) × (out' ≡ out)
 
 -- all places

@@ -37,7 +37,9 @@ pub fn read_lines(
     out: &mut [u8],
     commands: &mut [u8],
 ) -> Batch
-    ensures { λ r. ⌜ BatchRead (now (chunk .entry)) before (now (keep .entry)) (now (keep .exit)) (now (out .entry)) (now (out .exit)) (now (commands .entry)) (now (commands .exit)) r ⌝ }
+    ensures { λ r.
+        ⌜ BatchRead (now (chunk .entry)) before (now (keep .entry)) (now (keep .exit))
+        (now (out .entry)) (now (out .exit)) (now (commands .entry)) (now (commands .exit)) r ⌝ }
 {
     let mut batch = Batch {
         taken: 0,
@@ -66,7 +68,9 @@ fn take_line(
     commands: &mut [u8],
 ) -> Batch
     requires { ⌜ RoomForLine (now chunk) batch (now out) (now commands) ⌝ }
-    ensures { λ r. ⌜ ReadsOn (now (chunk .entry)) batch (now (keep .entry)) (now (keep .exit)) (now (out .entry)) (now (out .exit)) (now (commands .entry)) (now (commands .exit)) r ⌝ }
+    ensures { λ r.
+        ⌜ ReadsOn (now (chunk .entry)) batch (now (keep .entry)) (now (keep .exit))
+        (now (out .entry)) (now (out .exit)) (now (commands .entry)) (now (commands .exit)) r ⌝ }
 {
     let at = batch.taken;
     let lines = batch.lines;
@@ -77,10 +81,11 @@ fn take_line(
     let line = gathering.line;
     if ended {
         let kept = line.kept;
+        let lines_then = lines + 1;
         let frames = put_line(first_bytes(keep, kept), out, lines, commands, frames);
         return Batch {
             taken,
-            lines: lines + 1,
+            lines: lines_then,
             frames,
             line: Gathered::start(),
         };
@@ -97,7 +102,8 @@ fn take_line(
 // that keeps the place of its answer. Answers how many frames there are then.
 fn put_line(line: &[u8], out: &mut [u8], lines: usize, commands: &mut [u8], frames: usize) -> usize
     requires { ⌜ (lineSize * (lines + 1) ≤ length (now out)) × (frameSize * (frames + 1) ≤ length (now commands)) ⌝ }
-    ensures { λ r. ⌜ PutsLine (now (line .entry)) lines frames (now (out .entry)) (now (out .exit)) (now (commands .entry)) (now (commands .exit)) r ⌝ }
+    ensures { λ r.
+        ⌜ PutsLine (now (line .entry)) lines frames (now (out .entry)) (now (out .exit)) (now (commands .entry)) (now (commands .exit)) r ⌝ }
 {
     let at = LINE_SIZE * lines;
     let Reading::Frame {

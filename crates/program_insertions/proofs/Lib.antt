@@ -1,2 +1,2 @@
-pub mod OneMore
-pub mod Steps
+pub mod Frames
+pub mod Stream

@@ -82,7 +82,8 @@ fn take_line(
     filled: usize,
 ) -> FileTaken
     requires { ⌜ filled + lineSize ≤ length (now out) ⌝ }
-    ensures { λ r. ⌜ GoesOn (now (bytes .entry)) before (now (keep .entry)) (now (keep .exit)) (now (out .entry)) (now (out .exit)) filled r ⌝ }
+    ensures { λ r.
+        ⌜ GoesOn (now (bytes .entry)) before (now (keep .entry)) (now (keep .exit)) (now (out .entry)) (now (out .exit)) filled r ⌝ }
 {
     let lines = before.lines;
     let gathering = gather(bytes, true, before.line, keep);

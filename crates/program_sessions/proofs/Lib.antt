@@ -1,3 +1,4 @@
-pub mod Called
-pub mod Following
+pub mod Session
+pub mod Call
+pub mod Stream
 pub mod Examples

@@ -25,7 +25,8 @@ pub record AnswersLines (p q commands out out' : List ℕ) (lines : ℕ) : Type 
   pub samePool : length q ≡ length p
   pub refused : (Sound p → ⊥) → q ≡ p
   pub sound : Sound p → Sound q
-  pub state : (ls : List (List ℕ)) → commands ≡ joined bytesOf (map frameOf ls) → Sound p → meaning q ≡ stateAfterLines (meaning p) (map frameOf ls)
+  pub state : (ls : List (List ℕ)) → commands ≡ joined bytesOf (map frameOf ls) → Sound p
+      → meaning q ≡ stateAfterLines (meaning p) (map frameOf ls)
   pub answers : (ls : List (List ℕ)) → commands ≡ joined bytesOf (map frameOf ls) → lines ≡ length ls
       → take (lineSize * lines) out ≡ joined draftOf (map frameOf ls) → Sound p
       → take (lineSize * lines) out' ≡ joined lineOfAnswer (answersToLines (meaning p) (map frameOf ls))

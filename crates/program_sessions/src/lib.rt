@@ -40,7 +40,9 @@ pub fn take_in(
     pool: &mut [u8],
     out: &mut [u8],
 ) -> SessionTaken
-    ensures { λ r. ⌜ SessionTakesIn (now (chunk .entry)) before (now (keep .entry)) (now (keep .exit)) (now (pool .entry)) (now (pool .exit)) (now (out .entry)) (now (out .exit)) r ⌝ }
+    ensures { λ r.
+        ⌜ SessionTakesIn (now (chunk .entry)) before (now (keep .entry)) (now (keep .exit))
+        (now (pool .entry)) (now (pool .exit)) (now (out .entry)) (now (out .exit)) r ⌝ }
 {
     let mut commands = [0u8; Record::LONGEST_COMMANDS];
     let batch = read_lines(chunk, before, keep, out, &mut commands);
@@ -57,7 +59,9 @@ pub fn take_in(
 // Runs the commands and puts the answers at the places that were kept for them. Answers how many bytes the lines have.
 fn answer(pool: &mut [u8], commands: &[u8], out: &mut [u8], lines: usize) -> usize
     requires { ⌜ Asks (now commands) (now out) lines ⌝ }
-    ensures { λ r. ⌜ (r ≡ lineSize * lines) × AnswersLines (now (pool .entry)) (now (pool .exit)) (now (commands .entry)) (now (out .entry)) (now (out .exit)) lines ⌝ }
+    ensures { λ r.
+        ⌜ (r ≡ lineSize * lines)
+        × AnswersLines (now (pool .entry)) (now (pool .exit)) (now (commands .entry)) (now (out .entry)) (now (out .exit)) lines ⌝ }
 {
     let mut answers = [0u8; Record::LONGEST_COMMANDS];
     run(pool, commands, &mut answers);
@@ -67,7 +71,8 @@ fn answer(pool: &mut [u8], commands: &[u8], out: &mut [u8], lines: usize) -> usi
 
 // The input is over: answers its last line, if that has no line feed but a byte, as if the line feed had come.
 pub fn finish(before: Gathered, keep: &mut [u8], pool: &mut [u8], out: &mut [u8]) -> usize
-    ensures { λ r. ⌜ SessionEnds before (now (keep .entry)) (now (keep .exit)) (now (pool .entry)) (now (pool .exit)) (now (out .entry)) (now (out .exit)) r ⌝ }
+    ensures { λ r.
+        ⌜ SessionEnds before (now (keep .entry)) (now (keep .exit)) (now (pool .entry)) (now (pool .exit)) (now (out .entry)) (now (out .exit)) r ⌝ }
 {
     if before.length == 0 {
         return 0;

@@ -1,5 +1,6 @@
 pub mod Rules
-pub mod Numbers
+pub mod Digits
 pub mod Scans
+pub mod Fronts
 pub mod Written
-pub mod Frames
+pub mod Lines

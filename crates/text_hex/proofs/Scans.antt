@@ -1,13 +1,15 @@
 -- What the two loops that read know at each turn: the bytes from i on decide the whole, and the number so far fits.
-use mathlib.Core.Path.{_≡_, sym, _∙_}
+use mathlib.Core.Path.{_≡_, refl, sym, _∙_}
 use mathlib.Core.Bool.{true, false}
 use mathlib.Core.List.{List}
 use Prim.Native.Nat.{ℕ, _+_, _*_, _^_, _≤_, _<_}
 use native.Mathlib.Omega.{arith}
 use borrow.Author.Tests.{lt-ltb, le-ltb}
 use lib.ListN.{length, getD, drop, drop-of-length-le}
+use mir.Syntax.{w32}
+use mir.Val.{Fits}
 use Rattle.text_hex.specs.Digits.{valueOf, allDigits, numberAfter, numberOfDigits}
-use Rattle.text_hex.proofs.Numbers.{all-digits-from, number-from, number-grows, number-fits}
+use Rattle.text_hex.proofs.Digits.{all-digits-from, number-from, number-grows, number-fits}
 
 module _ (bytes : List ℕ) (i : ℕ) where
   -- a byte that is no digit settles it
@@ -42,5 +44,11 @@ module _ (bytes : List ℕ) (i : ℕ) where
         number-fits bytes 8 few digits,
       )
 
+  pub number-shifted-fits : (number : ℕ) → numberAfter number (drop i bytes) ≡ numberOfDigits bytes → i < length bytes → length bytes ≤ 8 → allDigits bytes ≡ true
+      → Fits w32 (number * 16)
+  number-shifted-fits number so-far below few digits =
+      record { fits = omega (arith, number-so-far-fits number (valueOf (getD bytes i 0)) so-far below refl few digits) }
+
+  -- no byte is left
   pub number-to-the-end : (number : ℕ) → numberAfter number (drop i bytes) ≡ numberOfDigits bytes → length bytes ≤ i → number ≡ numberOfDigits bytes
   number-to-the-end number so-far end = rw (drop-of-length-le bytes end) at so-far

@@ -10,7 +10,7 @@ use lib.ListN.{length, take, drop, set, length-set, length-append, take-append-d
 use lib.Seq.{drop-cons, take-take, take-set-le, drop-set-lt, getD-set-same, take-all, paste, paste-suc, take-append-le, append-snoc, getD-append-seam}
 use Rattle.text_hex.specs.Digits.{digitOf, digitsOf}
 use Rattle.text_hex.specs.Lines.{digitsOfFrame, lineDigits, lineOf, lineSize}
-use Rattle.text_hex.proofs.Numbers.{length-of-digits, digits-of-both}
+use Rattle.text_hex.proofs.Digits.{length-of-digits, digits-of-both}
 
 -- with `left` digits of `rest` still to be put, out is what it was before them, and its end is what the whole number leaves
 pub record Putting (many : ℕ) (before : List ℕ) (at number : ℕ) (out : List ℕ) (left rest : ℕ) : Type 0 where

@@ -20,7 +20,8 @@ isFrame line = eqb (length line) lineDigits && allDigits line
 -- the frame that sixteen digits spell: code, name, symbol and fourth byte of two digits each, then the number
 unfoldable pub spelled : List ℕ → Reading
 spelled line =
-    Frame (numberOfDigits (take 2 line)) (numberOfDigits (take 2 (drop 2 line))) (numberOfDigits (take 2 (drop 4 line))) (numberOfDigits (take 2 (drop 6 line)))
+    Frame (numberOfDigits (take 2 line)) (numberOfDigits (take 2 (drop 2 line)))
+    (numberOfDigits (take 2 (drop 4 line))) (numberOfDigits (take 2 (drop 6 line)))
     (numberOfDigits (take 8 (drop 8 line)))
 
 -- what a line holds: a frame exactly if it is sixteen hexadecimal digits

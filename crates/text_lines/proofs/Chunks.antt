@@ -1,10 +1,12 @@
--- Any way of cutting an input into chunks gives the same lines; and what is left of a chunk behind a place.
+-- Any way of cutting an input into chunks gives the same lines; and what is left of a chunk behind a place, and behind a step from it.
 use mathlib.Core.Bool.{Bool}
 use mathlib.Core.Path.{_≡_, refl, ap, sym, _∙_}
 use mathlib.Core.List.{List, [], _∷_, _++_, append-assoc}
-use Prim.Native.Nat.{ℕ, _-_}
+use Prim.Native.Nat.{ℕ, _+_, _-_, _^_, _≤_, _<_}
 use native.Mathlib.Omega.{arith}
 use lib.ListN.{length, take, drop, length-drop}
+use mir.Syntax.{w64}
+use mir.Val.{Fits}
 use lib.Seq.{take-all}
 use Rattle.text_lines.specs.Lines.{ended, left, lastLine, linesOf, joinedChunks, linesOfChunks}
 use Rattle.text_lines.proofs.Cut.{ended-append, left-append}
@@ -29,3 +31,18 @@ rest-is chunk at = take-all (length chunk - at) (drop at chunk) (omega (arith, l
 
 pub length-rest : (chunk : List ℕ) (at : ℕ) → length (take (length chunk - at) (drop at chunk)) ≡ length chunk - at
 length-rest chunk at = ap length (rest-is chunk at) ∙ length-drop at chunk
+
+-- a step from a place takes some of the rest: it stays within the chunk, and less is left
+module _ (chunk : List ℕ) (at : ℕ) where
+  pub rest-some : at < length chunk → 0 < length (take (length chunk - at) (drop at chunk))
+  rest-some below = omega (arith, length-rest chunk at)
+
+  module _ (taken : ℕ) (some-of-rest : taken ≤ length (take (length chunk - at) (drop at chunk))) where
+    pub step-within : at < length chunk → at + taken ≤ length chunk
+    step-within below = omega (arith, length-rest chunk at)
+
+    pub step-fits : at < length chunk → length chunk < 2 ^ 64 → Fits w64 (at + taken)
+    step-fits below long = record { fits = omega (arith, step-within below) }
+
+    pub step-less : at < length chunk → 0 < taken → length chunk - (at + taken) < length chunk - at
+    step-less below some = omega arith

@@ -1,55 +1,48 @@
--- What a gathering says of the lines of the bytes that it was given.
-use mathlib.Core.Bool.{Bool, true, false, cond}
-use mathlib.Core.Path.{_≡_, ap, sym, _∙_}
-use mathlib.Core.List.{List, [], _∷_, _++_}
-use Prim.Native.Nat.{ℕ, _-_}
-use lib.ListN.{take, drop, take-append-drop}
-use lib.Seq.{take-length}
+-- What a gathering says of the lines where its bytes come behind others: one line more and nothing left where they end a line, and else
+-- as many lines and all of them left. Both parts go by what was taken: a piece without a line feed, and what ended it.
+use mathlib.Core.Bool.{Bool, true, false}
+use mathlib.Core.Path.{_≡_, ap, _∙_}
+use mathlib.Core.List.{List, [], _∷_, _++_, append-nil}
+use Prim.Native.Nat.{ℕ}
+use lib.ListN.{take}
 use Rattle.text_lines.specs.declared.Gathered.{Gathered}
 use Rattle.text_lines.specs.declared.Gathering.{Gathering}
-use Rattle.text_lines.specs.Lines.{lineFeed, trim, ended, left, piece, endBytes, Gathers}
+use Rattle.text_lines.specs.Lines.{trim, ended, left, piece, endBytes, Gathers}
 use Rattle.text_lines.proofs.Cut.{ended-append, left-append, ended-plain, left-plain, ended-line, left-line}
 
-module _ (r : Bool) (bytes : List ℕ) (before : Gathered) (keep keep' : List ℕ) (result : Gathering) (h : Gathers r bytes before keep keep' result) where
-  module _ (yes-ended : result .ended ≡ true) where
-    -- the bytes are the piece, its line feed, and the rest
-    whole-line : (piece bytes result ++ (lineFeed ∷ [])) ++ drop (result .taken) bytes ≡ bytes
-    whole-line =
-        ap (λ (t : Bool). (piece bytes result ++ endBytes t) ++ drop (result .taken) bytes) (sym yes-ended)
-        ∙ ap (λ (l : List ℕ). l ++ drop (result .taken) bytes) (sym (h .taken))
-        ∙ take-append-drop (result .taken) bytes
+module _ (r : Bool) (bytes : List ℕ) (before : Gathered) (keep keep' : List ℕ) (result : Gathering) (gathers : Gathers r bytes before keep keep' result)
+    (gathered front : List ℕ) where
+  -- the bytes that were taken, as the piece and what ended it
+  taken-by : (ends : Bool) → result .ended ≡ ends → take (result .taken) bytes ≡ piece bytes result ++ endBytes ends
+  taken-by ends is = gathers .taken ∙ ap (λ e. piece bytes result ++ endBytes e) is
 
-    -- one line ends in what was taken; the others are those of the rest
-    pub line-ended : (g : List ℕ) → ended r g bytes ≡ trim r (g ++ piece bytes result) ∷ ended r [] (drop (result .taken) bytes)
-    line-ended g =
-        let front : List ℕ = piece bytes result ++ (lineFeed ∷ []) in
-        let rest : List ℕ = drop (result .taken) bytes in
-        ap (ended r g) (sym whole-line)
-        ∙ ended-append r g front rest
-        ∙ ap (λ (l : List (List ℕ)). l ++ ended r (left g front) rest) (ended-line r g (piece bytes result) (h .plain))
-        ∙ ap (λ (l : List ℕ). trim r (g ++ piece bytes result) ∷ ended r l rest) (left-line g (piece bytes result) (h .plain))
+  -- they end a line
+  pub line-more : result .ended ≡ true
+      → ended r gathered (front ++ take (result .taken) bytes) ≡ ended r gathered front ++ (trim r (left gathered front ++ piece bytes result) ∷ [])
+  line-more ends =
+      ended-append r gathered front (take (result .taken) bytes)
+      ∙ ap (λ l. ended r gathered front ++ l)
+      (ap (ended r (left gathered front)) (taken-by true ends) ∙ ended-line r (left gathered front) (piece bytes result) (gathers .plain))
 
-    -- what is left is what the rest leaves
-    pub line-left : (g : List ℕ) → left g bytes ≡ left [] (drop (result .taken) bytes)
-    line-left g =
-        let front : List ℕ = piece bytes result ++ (lineFeed ∷ []) in
-        let rest : List ℕ = drop (result .taken) bytes in
-        ap (left g) (sym whole-line)
-        ∙ left-append g front rest
-        ∙ ap (λ (l : List ℕ). left l rest) (left-line g (piece bytes result) (h .plain))
+  pub nothing-left : result .ended ≡ true → left gathered (front ++ take (result .taken) bytes) ≡ []
+  nothing-left ends =
+      left-append gathered front (take (result .taken) bytes)
+      ∙ ap (left (left gathered front)) (taken-by true ends)
+      ∙ left-line (left gathered front) (piece bytes result) (gathers .plain)
 
-  module _ (not-ended : result .ended ≡ false) where
-    -- all bytes were taken
-    pub piece-all : piece bytes result ≡ bytes
-    piece-all =
-        ap (λ (t : Bool). take (cond t (result .taken - 1) (result .taken)) bytes) not-ended
-        ∙ ap (λ (n : ℕ). take n bytes) (h .all not-ended)
-        ∙ take-length bytes
+  -- they don't
+  all-plain : result .ended ≡ false → take (result .taken) bytes ≡ piece bytes result
+  all-plain goes-on = taken-by false goes-on ∙ append-nil (piece bytes result)
 
-    -- no line ends in them
-    pub none-ended : (g : List ℕ) → ended r g bytes ≡ []
-    none-ended g = ap (ended r g) (sym piece-all) ∙ ended-plain r g (piece bytes result) (h .plain)
+  pub no-line-more : result .ended ≡ false → ended r gathered (front ++ take (result .taken) bytes) ≡ ended r gathered front
+  no-line-more goes-on =
+      ended-append r gathered front (take (result .taken) bytes)
+      ∙ ap (λ l. ended r gathered front ++ l)
+      (ap (ended r (left gathered front)) (all-plain goes-on) ∙ ended-plain r (left gathered front) (piece bytes result) (gathers .plain))
+      ∙ append-nil (ended r gathered front)
 
-    -- and all are left
-    pub all-left : (g : List ℕ) → left g bytes ≡ g ++ piece bytes result
-    all-left g = ap (left g) (sym piece-all) ∙ left-plain g (piece bytes result) (h .plain)
+  pub more-left : result .ended ≡ false → left gathered (front ++ take (result .taken) bytes) ≡ left gathered front ++ piece bytes result
+  more-left goes-on =
+      left-append gathered front (take (result .taken) bytes)
+      ∙ ap (left (left gathered front)) (all-plain goes-on)
+      ∙ left-plain (left gathered front) (piece bytes result) (gathers .plain)

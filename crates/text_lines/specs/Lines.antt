@@ -112,4 +112,5 @@ pub record Gathers (returns : Bool) (bytes : List ℕ) (before : Gathered) (keep
   pub onward : 0 < length bytes → 0 < result .taken
   pub same : length keep' ≡ length keep
   -- the state stands for the piece too, whatever bytes of the line came before it
-  pub stands : (gathered : List ℕ) → Stands returns gathered before keep → Stands returns (gathered ++ piece bytes result) (result .line) keep'
+  pub stands : (gathered : List ℕ) → Stands returns gathered before keep
+      → Stands returns (gathered ++ piece bytes result) (result .line) keep'

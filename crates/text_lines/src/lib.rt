@@ -9,9 +9,9 @@ ghost use Rattle.text_lines.specs.Lines.{mostLength, Stands, Adds, Finis
 
 pub const LINE_FEED: u8 = 10;
 
-pub const CARRIAGE_RETURN: u8 = 13;
+const CARRIAGE_RETURN: u8 = 13;
 // the largest length that is told of a line
-pub const MOST_LENGTH: usize = 18446744073709551615;
+const MOST_LENGTH: usize = 18446744073709551615;
 
 // A line that is being read, beside the buffer whose front holds its first bytes.
 pub struct Gathered {
@@ -58,7 +58,7 @@ fn counted(length: usize) -> usize
 }
 
 // The line with one byte more, which is kept where the buffer has room.
-pub fn add(byte: u8, before: Gathered, keep: &mut [u8]) -> Gathered
+fn add(byte: u8, before: Gathered, keep: &mut [u8]) -> Gathered
     ensures { λ r. ⌜ Adds byte before (now (keep .entry)) (now (keep .exit)) r ⌝ }
 {
     let kept = before.kept;
@@ -92,7 +92,7 @@ pub fn finish(before: Gathered, keep: &mut [u8]) -> Gathered
 }
 
 // The line after a byte that is no line feed. Under the rule a carriage return waits for the byte that follows it.
-pub fn accept(byte: u8, returns: bool, before: Gathered, keep: &mut [u8]) -> Gathered
+fn accept(byte: u8, returns: bool, before: Gathered, keep: &mut [u8]) -> Gathered
     ensures { λ r. ⌜ Accepts byte returns before (now (keep .entry)) (now (keep .exit)) r ⌝ }
 {
     let line = finish(before, keep);

@@ -42,7 +42,7 @@ module _ (p : List ℕ) (r : Record) (o : OpenRecord p r) where
   pub record-few : r .length < wordLimit → length (marksT (treeBy p r)) < wordLimit
   record-few short = omega (arith, record-length)
 
-  -- the mark that its root's block finds; the depth is that of its tree, and keeps to document 01's rule
+  -- the mark that its root's block finds; the depth is that of its tree, and keeps to RULES, Depth
   pub record-found : (i mark blocks : ℕ) → FoundIn p (r .height) (r .root) i mark 0 blocks → FoundOf p r i (record { mark = mark; blocks = blocks })
   record-found i mark blocks = rw (o .is) found
     where

@@ -6,33 +6,13 @@ use Rattle.text_lines.proofs.Standing.{accepts-return, accepts-other}
 use Rattle.text_lines.proofs.accept.Statement.{statement}
 use Rattle.text_lines.proofs.accept.Tie as tie
 
-finish-requires : tie.Need-finish-requires
-finish-requires c κs = search needs
-
-same-length : tie.Need-same-length
-same-length c = search needs
-
-returns : tie.Need-returns
-returns c =
-    accepts-return _ _ _ _ _ _ (waits-return _ _ (c .before .if1 .taken) (c .if2 .taken)) (c .before .before .before .before .finish .ensures)
-
-add-requires : tie.Need-add-requires
-add-requires c κs = search needs
-
-same-length-2 : tie.Need-same-length-2
-same-length-2 c = search needs
-
-returns-2 : tie.Need-returns-2
-returns-2 c =
-    let passed = c .before .before .before .before .before .before .before .before .before .before .args in
-    accepts-other _ _ _ _ _ _ _ _
-    (⊎-elim
-    (λ w. other-byte (passed .returns) (passed .byte) (w .1 .left))
-    (λ w. rule-off (passed .returns) (passed .byte) (w .left))
-    (c .before .before .before .before .if1 .came))
-    (c .before .before .before .before .before .before .before .finish .ensures)
-    (c .before .before .add .ensures)
-
 pub accept-spec : {M : Type 1} → statement M
 accept-spec =
-    tie.close (tie.spec finish-requires same-length returns add-requires same-length-2 returns-2)
+    tie.close
+    (tie.spec
+    (λ c κs. search needs)
+    (λ c. search needs)
+    (λ c. search (accepts-return, waits-return))  -- returns
+    (λ c κs. search needs)
+    (λ c. search needs)
+    (λ c. ⊎-elim (λ w. search (accepts-other, other-byte)) (λ w. search (accepts-other, rule-off)) (c .before .before .before .before .if1 .came)))  -- returns-2

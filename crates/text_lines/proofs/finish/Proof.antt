@@ -4,17 +4,11 @@ use Rattle.text_lines.proofs.Standing.{finishes-return, finishes-plain}
 use Rattle.text_lines.proofs.finish.Statement.{statement}
 use Rattle.text_lines.proofs.finish.Tie as tie
 
-add-requires : tie.Need-add-requires
-add-requires c κs = search needs
-
-same-length : tie.Need-same-length
-same-length c = search needs
-
-returns : tie.Need-returns
-returns c = finishes-return (c .before .before .before .before .before .before .args .before) _ _ _ (c .before .before .before .before .if1 .taken) (c .before .before .add .ensures)
-
-returns-2 : tie.Need-returns-2
-returns-2 c = finishes-plain (c .before .before .args .before) _ (c .if1 .left)
-
 pub finish-spec : {M : Type 1} → statement M
-finish-spec = tie.close (tie.spec add-requires same-length returns returns-2)
+finish-spec =
+    tie.close
+    (tie.spec
+    (λ c κs. search needs)
+    (λ c. search needs)
+    (λ c. search finishes-return)  -- returns
+    (λ c. search finishes-plain))  -- returns-2

@@ -5,14 +5,10 @@ use lib.Seq.{take-all, length-take-le}
 use Rattle.text_lines.proofs.first_bytes.Statement.{statement}
 use Rattle.text_lines.proofs.first_bytes.Tie as tie
 
-returns : tie.Need-returns
-returns c = sym (take-all _ _ (c .if1 .taken))
-
-slice-aggregate-result : tie.Need-slice-aggregate-result
-slice-aggregate-result c = sym (length-take-le _ _ (search needs))
-
-returns-2 : tie.Need-returns-2
-returns-2 c = search needs
-
 pub first-bytes-spec : {M : Type 1} → statement M
-first-bytes-spec = tie.close (tie.spec returns slice-aggregate-result returns-2)
+first-bytes-spec =
+    tie.close
+    (tie.spec
+    (λ c. search take-all)  -- returns
+    (λ c. sym (length-take-le _ _ (search needs)))  -- slice-aggregate-result
+    (λ c. search needs))

@@ -3,11 +3,9 @@ use borrow.Author.Tests.{lt-ltb, le-ltb}
 use Rattle.text_fixed_form.proofs.columns.is_outside.Statement.{statement}
 use Rattle.text_fixed_form.proofs.columns.is_outside.Tie as tie
 
-returns : tie.Need-returns
-returns c = rw (lt-ltb _ _ (c .if1 .taken))
-
-returns-2 : tie.Need-returns-2
-returns-2 c = rw (le-ltb _ _ (c .if1 .left))
-
 pub is-outside-spec : {M : Type 1} → statement M
-is-outside-spec = tie.close (tie.spec returns returns-2)
+is-outside-spec =
+    tie.close
+    (tie.spec
+    (λ c. search lt-ltb)  -- returns
+    (λ c. search le-ltb))  -- returns-2

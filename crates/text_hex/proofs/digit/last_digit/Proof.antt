@@ -6,12 +6,13 @@ use Rattle.text_hex.proofs.Rules.{values-at}
 use Rattle.text_hex.proofs.digit.last_digit.Statement.{statement}
 use Rattle.text_hex.proofs.digit.last_digit.Tie as tie
 
-array-read-result : tie.Need-array-read-result
-array-read-result c = search needs
-
 returns : tie.Need-returns
 unfolding digitOf
 returns c = values-at digitOf 16 (c .args .number % 16) (search needs)
 
 pub last-digit-spec : {M : Type 1} → statement M
-last-digit-spec = tie.close (tie.spec array-read-result returns)
+last-digit-spec =
+    tie.close
+    (tie.spec
+    (λ c. search needs)
+    returns)

@@ -5,12 +5,13 @@ use Rattle.text_hex.proofs.Rules.{values-at}
 use Rattle.text_hex.proofs.digit.value.Statement.{statement}
 use Rattle.text_hex.proofs.digit.value.Tie as tie
 
-array-read-result : tie.Need-array-read-result
-array-read-result c = search needs
-
 returns : tie.Need-returns
 unfolding valueOf
 returns c = values-at valueOf 256 (c .args .byte) (search needs)
 
 pub value-spec : {M : Type 1} → statement M
-value-spec = tie.close (tie.spec array-read-result returns)
+value-spec =
+    tie.close
+    (tie.spec
+    (λ c. search needs)
+    returns)

@@ -13,45 +13,18 @@ Inv-loop out₀ at number left₀ rest₀ out left rest = (at + lineDigits ≤ l
 abbrev μ-loop : tie.MeasureT-loop
 μ-loop out₀ at number left₀ rest₀ out left rest = left
 
-loop-holds : tie.Need-loop-holds Inv-loop μ-loop
-loop-holds c = (c .before .pre, putting-none _ _ _ _ (c .before .pre))
-
-sub-left : tie.Need-sub-left Inv-loop μ-loop
-sub-left c = search needs
-
-last-digit-requires : tie.Need-last-digit-requires Inv-loop μ-loop
-last-digit-requires c κs = search needs
-
-add-out : tie.Need-add-out Inv-loop μ-loop
-add-out c = search needs
-
-slice-write-out : tie.Need-slice-write-out Inv-loop μ-loop
-slice-write-out c = search needs
-
-loop-less : tie.Need-loop-less Inv-loop μ-loop
-loop-less c = search needs
-
-loop-again : tie.Need-loop-again Inv-loop μ-loop
-loop-again c = (c .before .before .loop .inv .0, search putting-more)
-
-same-length : tie.Need-same-length Inv-loop μ-loop
-same-length c = search needs
-
-returns : tie.Need-returns Inv-loop μ-loop
-returns c = search put-all
-
 pub write-digits-spec : {M : Type 1} → statement M
 write-digits-spec =
     tie.close
     (tie.spec
     Inv-loop
     μ-loop
-    loop-holds
-    sub-left
-    last-digit-requires
-    add-out
-    slice-write-out
-    loop-less
-    loop-again
-    same-length
-    returns)
+    (λ c. search putting-none)  -- loop-holds
+    (λ c. search needs)
+    (λ c κs. search needs)
+    (λ c. search needs)
+    (λ c. search needs)
+    (λ c. search needs)
+    (λ c. search putting-more)  -- loop-again
+    (λ c. search needs)
+    (λ c. search put-all))  -- returns

@@ -3,8 +3,8 @@ use Rattle.text_lines.proofs.Standing.{stands-start}
 use Rattle.text_lines.proofs.Gathered.start.Statement.{statement}
 use Rattle.text_lines.proofs.Gathered.start.Tie as tie
 
-returns : tie.Need-returns
-returns c = stands-start
-
 pub start-spec : {M : Type 1} → statement M
-start-spec = tie.close (tie.spec returns)
+start-spec =
+    tie.close
+    (tie.spec
+    (λ c. search stands-start))  -- returns

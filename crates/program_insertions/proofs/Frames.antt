@@ -4,7 +4,7 @@ use mathlib.Core.Path.{_≡_, sym, ap, _∙_}
 use mathlib.Core.Bool.{cond}
 use mathlib.Core.List.{List, [], _∷_, _++_, append-nil, append-assoc}
 use Prim.Native.Nat.{ℕ, suc, _+_, _≤_, _<_, min}
-use native.Mathlib.Decide.{decLe, decLt}
+use native.Mathlib.Decide.{decLt}
 use native.Mathlib.Nat.{add-zero}
 use native.Mathlib.Omega.{arith}
 use borrow.Author.Tests.{lt-ltb, le-ltb}
@@ -17,6 +17,7 @@ use Rattle.geometry.specs.Limits.{mostMarks, lastColumn}
 use Rattle.text_hex.specs.Lines.{lineOf}
 use Rattle.text_lines.specs.Lines.{Holds}
 use Rattle.text_lines.specs.declared.Gathered.{Gathered}
+use Rattle.text_lines.proofs.Held.{kept-tells}
 use Rattle.protocol.specs.Commands.{insertCode}
 use Rattle.program_insertions.specs.Frames.{file, frameAt, framesFrom, framesOfLines, frameAfter}
 
@@ -68,23 +69,10 @@ pub frame-after-limit : (lines : ℕ) (line : List ℕ) → frameAfter (min most
 unfolding frameAfter
 frame-after-limit lines line = min-up-to mostMarks lines (λ place. frameAt place line) (decLt lines mostMarks)
 
--- a line cut where the buffer ends keeps its mark, since the buffer has room for every column that is read
-mark-of-front : (line : List ℕ) (room : ℕ) → lastColumn ≤ room → Dec (length line ≤ room)
-    → markOf (take (min room (length line)) line) ≡ markOf line
-mark-of-front line room columns (yes short) =
-    let all : length line ≤ min room (length line) = omega arith in
-    ap markOf (take-all (min room (length line)) line all)
-mark-of-front line room columns (no long) =
-    let cut : min room (length line) ≡ room = omega (arith, long) in
-    rw cut (mark-of-kept line room columns)
-
--- the kept columns have the line's frame
+-- the kept columns have the line's frame, since the buffer has room for every column that is read
 pub frame-of-line-held : (lines : ℕ) (line : List ℕ) (s : Gathered) (keep : List ℕ) → Holds line s keep → lastColumn ≤ length keep
     → frameAfter lines (take (s .kept) keep) ≡ frameAfter lines line
 unfolding frameAfter frameAt
 frame-of-line-held lines line s keep holds columns =
-    let mark : markOf (take (s .kept) keep) ≡ markOf line =
-    ap markOf (holds .bytes) ∙ ap (λ k. markOf (take k line)) (holds .kept)
-    ∙ mark-of-front line (length keep) columns (decLe (length line) (length keep))
-    in
-    ap (λ m. cond (ltb lines mostMarks) (lineOf insertCode file m 0 (lines + 1)) []) mark
+    ap (λ m. cond (ltb lines mostMarks) (lineOf insertCode file m 0 (lines + 1)) [])
+    (kept-tells markOf line s keep holds (λ longer. mark-of-kept line (length keep) columns))

@@ -1,19 +1,21 @@
 -- What a line holds, test by test, and that reading a written line gives its numbers back: each field's digits are a part of the
 -- line, and a number is read back from its digits.
 use mathlib.Core.Path.{_≡_, refl, sym, ap, _∙_}
-use mathlib.Core.Bool.{true, false}
+use mathlib.Core.Bool.{Bool, true, false, not}
 use mathlib.Core.List.{List, [], _∷_, _++_}
-use Prim.Native.Nat.{ℕ, zero, suc, _+_, _^_, _<_}
+use Prim.Native.Nat.{ℕ, zero, suc, _+_, _-_, _^_, _≤_, _<_}
 use native.Mathlib.Omega.{arith}
-use borrow.Author.Tests.{eq-eqb, ne-eqb}
+use borrow.Author.Tests.{eq-eqb, ne-eqb, not-false}
 use lib.Dec.{ltb}
-use lib.ListN.{length, take, drop}
+use lib.ListN.{length, take, drop, length-take}
 use lib.Seq.{take-at, drop-at, take-all, drop-drop}
+use mir.Syntax.{w8}
+use mir.Val.{Fits}
 use Rattle.text_hex.specs.Digits.{valueOf, allDigits, numberOfDigits, digitsOf}
 use Rattle.text_hex.specs.Lines.{lineDigits, spelled, frameOf, numbersOf, digitsOfFrame}
 use Rattle.text_hex.specs.declared.read.Reading.the-variants.{Frame, Bad}
 use Rattle.text_hex.proofs.Written.{length-of-frame}
-use Rattle.text_hex.proofs.Numbers.{first-of-both, second-of-both, all-digits-append, digits-are-digits, length-of-digits, number-of-digits}
+use Rattle.text_hex.proofs.Digits.{first-of-both, second-of-both, all-digits-append, digits-are-digits, length-of-digits, number-fits, number-of-digits}
 
 -- digits stay digits in a part of the line
 all-digits-drop : (many : ℕ) (bytes : List ℕ) → allDigits bytes ≡ true → allDigits (drop many bytes) ≡ true
@@ -31,6 +33,22 @@ all-digits-take (suc many) (byte ∷ bytes) digits =
 pub all-digits-part : (from many : ℕ) (bytes : List ℕ) → allDigits bytes ≡ true → allDigits (take many (drop from bytes)) ≡ true
 all-digits-part from many bytes digits = all-digits-take many (drop from bytes) (all-digits-drop from bytes digits)
 
+-- the part of a line that code reads from a place on, its length, and the byte that two digits stand for
+pub part-is : (at many : ℕ) (line : List ℕ) → take (at + many - at) (drop at line) ≡ take many (drop at line)
+part-is at many line = let same : at + many - at ≡ many = omega arith in rw same
+
+pub part-short : (many : ℕ) (bytes : List ℕ) → length (take many bytes) ≤ many
+part-short many bytes = simp length-take (omega arith)
+
+pub byte-fits : (line : List ℕ) (at byte : ℕ) → byte ≡ numberOfDigits (take (at + 2 - at) (drop at line)) → allDigits line ≡ true → Fits w8 byte
+byte-fits line at byte is digits =
+    record {
+      fits =
+          rw (is, part-is at 2 line)
+          (number-fits (take 2 (drop at line)) 2 (part-short 2 (drop at line)) (all-digits-part at 2 line digits));
+    }
+
+-- What a line holds, by the two tests.
 pub frame-of-other-length : (line : List ℕ) → (length line ≡ lineDigits → ⊥) → Bad ≡ frameOf line
 unfolding frameOf
 frame-of-other-length line other = rw (ne-eqb (length line) lineDigits other)
@@ -42,6 +60,17 @@ frame-of-no-digits line long none = rw (eq-eqb (length line) lineDigits long, no
 pub frame-of-digits : (line : List ℕ) → length line ≡ lineDigits → allDigits line ≡ true → spelled line ≡ frameOf line
 unfolding frameOf
 frame-of-digits line long digits = rw (eq-eqb (length line) lineDigits long, digits)
+
+-- every byte is a digit where the test for one that is none failed
+pub digits-told : (line : List ℕ) (answer : Bool) → answer ≡ allDigits line → not answer ≡ false → allDigits line ≡ true
+digits-told line answer is none = sym is ∙ not-false answer none
+
+-- the numbers that were read, each of its digits, are the frame
+pub frame-read : (line : List ℕ) (answer : Bool) (code name symbol fourth number : ℕ) → length line ≡ lineDigits → answer ≡ allDigits line → not answer ≡ false
+    → code ≡ numberOfDigits (take 2 line) → name ≡ numberOfDigits (take 2 (drop 2 line)) → symbol ≡ numberOfDigits (take 2 (drop 4 line))
+    → fourth ≡ numberOfDigits (take 2 (drop 6 line)) → number ≡ numberOfDigits (take 8 (drop 8 line)) → Frame code name symbol fourth number ≡ frameOf line
+unfolding spelled
+frame-read line answer code name symbol fourth number long is none a b c d n = rw (a, b, c, d, n) (frame-of-digits line long (digits-told line answer is none))
 
 -- digits in front of others are read back, and the others stand behind them
 read-in-front : (many number : ℕ) (rest : List ℕ) → number < 16 ^ many → numberOfDigits (take many (digitsOf many number ++ rest)) ≡ number

@@ -5,7 +5,7 @@ use Prim.Native.Nat.{ℕ, _+_, _*_, _/_, _%_, _^_}
 use native.Mathlib.Omega.{arith}
 use Rattle.text_hex.specs.Digits.{digitsOf}
 use Rattle.text_hex.specs.Lines.{lineOf, digitsOfFrame}
-use Rattle.text_hex.proofs.Numbers.{digits-of-both}
+use Rattle.text_hex.proofs.Digits.{digits-of-both}
 use Rattle.protocol.specs.Frames.{numberOf, answerOfBytes, bytesOfAnswer}
 use Rattle.protocol.specs.declared.Answer.{Answer}
 use Rattle.protocol.proofs.Frames.{number-of-bytes}
