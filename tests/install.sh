@@ -3,6 +3,7 @@
 # all of it out again: no file may be left. With DESTDIR the same files stand below that and tell the same prefix.
 set -euo pipefail
 cd "$(dirname "$0")/.."
+unset MAKEFLAGS MFLAGS DESTDIR # what a make that runs this was told
 fail() { echo "install: $1"; exit 1; }
 room=$(mktemp -d)
 trap 'rm -rf "$room"' EXIT
