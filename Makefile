@@ -22,7 +22,7 @@ check:
 	bash .ci/run
 
 bench:
-	bash tests/benchmark/run.sh "$(ARCHIVE)" $(BEFORE)
+	bash tests/benchmark/run.sh "" $(BEFORE)
 
 # Builds nothing, so that root has nothing to prove.
 install:
