@@ -89,13 +89,16 @@ fn one_try<'a, T>(operations: usize, prepare: impl Fn(usize) -> T + 'a, work: im
 }
 
 /// The least time of each contestant, no number where it has none. They take turns, so that a slow or a fast spell of the machine meets
-/// all of them, and tries are short, so that some of them aren't broken off by other work.
+/// all of them, and tries are short, so that some of them aren't broken off by other work. The first two exchange places from turn to
+/// turn, also where a round comes again, so that neither always follows the same other.
 fn best<const MANY: usize>(contestants: [Option<Try>; MANY]) -> [f64; MANY] {
     let mut least = [f64::NAN; MANY];
     for turn in 0..TRIES {
-        for (time, contestant) in least.iter_mut().zip(&contestants) {
-            // the smaller of a number and no number is the number
-            *time = time.min(contestant.as_ref().map_or(f64::NAN, |once| once(turn % ROUNDS)));
+        let exchanged = (turn + turn / ROUNDS) % 2;
+        for place in 0..MANY {
+            let k = if place < 2 { place ^ exchanged } else { place };
+            let took = contestants[k].as_ref().map_or(f64::NAN, |once| once(turn % ROUNDS));
+            least[k] = least[k].min(took); // the number, where one of the two is none
         }
     }
     least
@@ -230,12 +233,12 @@ fn same_answers(file: &File, frames: &[Frame]) {
 fn row(operation: &str, file: &File, rounds: &[Round], batch: usize) {
     let batch = batch.min(rounds[0].frames.len());
     let edits = operation == "insert" || operation == "delete";
-    let [library, twin, flat, rope, before] = best([
+    let [library, before, twin, flat, rope] = best([
         Some(try_index(LIBRARY, file, rounds, batch)),
+        BEFORE.map(|contestant| try_index(contestant, file, rounds, batch)),
         Some(try_index(TWIN, file, rounds, batch)),
         Some(try_flat(file, rounds)),
         edits.then(|| try_rope(file, rounds)),
-        BEFORE.map(|contestant| try_index(contestant, file, rounds, batch)),
     ]);
     let times = times(library, &[twin, flat, rope], before, 1);
     println!("{operation:<8} {:>6} {batch:>6} {times}", file.marks.len());
@@ -290,8 +293,8 @@ fn checks() {
             let blocks = held(ready.pool());
             let summed =
                 one_try(CALLS, |_| (), |_, _| (0..CALLS).for_each(|_| _ = black_box(plain_sum(black_box(blocks)))));
-            let [library, twin, sum, before] =
-                best([Some(checked(LIBRARY)), Some(checked(TWIN)), Some(summed), BEFORE.map(checked)]);
+            let [library, before, twin, sum] =
+                best([Some(checked(LIBRARY)), BEFORE.map(checked), Some(checked(TWIN)), Some(summed)]);
             let marks = files.iter().map(|file| file.marks.len()).sum::<usize>();
             println!("{label:<8} {marks:>6} {names:>6} {}", times(library, &[twin, sum], before, 0));
         }
