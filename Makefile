@@ -26,7 +26,7 @@ bench:
 
 # Builds nothing, so that root has nothing to prove.
 install:
-	@for file in $(programs) $(library); do test -f $$file || { echo "make install: $$file isn't there; build it first with: make"; exit 1; }; done
+	@ls $(programs) $(library) >/dev/null || { echo "make install: build what isn't there first, with: make"; exit 1; }
 	install -d $(into)/bin $(into)/include $(into)/lib/pkgconfig
 	install -m 755 $(programs) $(into)/bin
 	install -m 644 include/forfochry.h $(into)/include

@@ -11,7 +11,11 @@ usr=$room/usr
 pc=lib/pkgconfig/forfochry.pc
 wanted="bin/answers bin/marks include/forfochry.h lib/libforfochry.a $pc"
 made() { make -s "$@" >"$room/log" 2>&1 || fail "make $* failed: $(cat "$room/log")"; }
-holds() { [ "$(cd "$1" && find . -type f -printf '%P\n' | sort | paste -sd' ')" = "$2" ] || fail "there should be the files '$2' and are: $(find "$1" -type f)"; }
+holds() {
+  local files
+  files=$(cd "$1" && find . -type f -printf '%P\n' | sort | paste -sd' ')
+  [ "$files" = "$2" ] || fail "there should be the files '$2', and there are '$files'"
+}
 
 made install PREFIX="$usr"
 holds "$usr" "$wanted"
