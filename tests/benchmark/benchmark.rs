@@ -1,4 +1,5 @@
-//! The library beside the unproved twin, a flat array and the C++ library's rope, in one run.
+//! The library beside the unproved twin, a flat array, the C++ library's rope and, if there is one, another archive of
+//! the library, in one run.
 //!
 //! Times are nanoseconds a frame, the best of some tries. The library and the twin are called with so many
 //! frames a call, and every call checks the pool; the flat array and the rope are called once an operation.
@@ -11,7 +12,7 @@ mod contestants;
 mod dice;
 mod flat;
 
-use contestants::{Contestant, Frame, Index, LIBRARY, Rope, TWIN, frame};
+use contestants::{BEFORE, Contestant, Frame, Index, LIBRARY, Rope, TWIN, frame};
 use dice::Dice;
 use flat::Flat;
 use std::hint::black_box;
@@ -87,16 +88,36 @@ fn one_try<'a, T>(operations: usize, prepare: impl Fn(usize) -> T + 'a, work: im
     })
 }
 
-/// The least time of each contestant. They take turns, so that a slow or a fast spell of the machine meets all of them, and tries are
-/// short, so that some of them aren't broken off by other work.
-fn best<const MANY: usize>(contestants: [Try; MANY]) -> [f64; MANY] {
-    let mut least = [f64::MAX; MANY];
+/// The least time of each contestant, no number where it has none. They take turns, so that a slow or a fast spell of the machine meets
+/// all of them, and tries are short, so that some of them aren't broken off by other work. The first two exchange places from turn to
+/// turn, also where a round comes again, so that neither always follows the same other.
+fn best<const MANY: usize>(contestants: [Option<Try>; MANY]) -> [f64; MANY] {
+    let mut least = [f64::NAN; MANY];
     for turn in 0..TRIES {
-        for (time, contestant) in least.iter_mut().zip(&contestants) {
-            *time = time.min(contestant(turn % ROUNDS));
+        let exchanged = (turn + turn / ROUNDS) % 2;
+        for place in 0..MANY {
+            let k = if place < 2 { place ^ exchanged } else { place };
+            let took = contestants[k].as_ref().map_or(f64::NAN, |once| once(turn % ROUNDS));
+            least[k] = least[k].min(took); // the number, where one of the two is none
         }
     }
     least
+}
+
+/// The library's time, each other's time and the library's over it, as the end of a line. The other archive's come last, where there is
+/// one; no number is a dash.
+fn times(library: f64, others: &[f64], before: f64, digits: usize) -> String {
+    let shown = |value: f64, digits: usize| if value.is_nan() { "-".to_string() } else { format!("{value:.digits$}") };
+    let beside = |other: &f64| format!(" {:>10} {:>8}", shown(*other, digits), shown(library / other, 2));
+    let last = BEFORE.map(|_| beside(&before)).unwrap_or_default();
+    format!("{:>10}{}{last}", shown(library, digits), others.iter().map(beside).collect::<String>())
+}
+
+/// The heading over `times`.
+fn headings(others: &[&str]) -> String {
+    let beside = |other: &str| format!(" {:>10} {:>8}", format!("{other} ns"), "ratio");
+    let last = BEFORE.map(|_| beside("before")).unwrap_or_default();
+    format!("{:>10}{}{last}", "library ns", others.iter().map(|other| beside(other)).collect::<String>())
 }
 
 /// A round of queries of one kind, each at a random place.
@@ -196,13 +217,15 @@ fn try_rope<'a>(file: &'a File, rounds: &'a [Round]) -> Try<'a> {
     one_try(rounds[0].frames.len(), prepare, work)
 }
 
-/// The library and the twin give the same answers, before their times are compared.
+/// The library gives the same answers as the twin and the other archive, before their times are compared.
 fn same_answers(file: &File, frames: &[Frame]) {
-    let [mut library, mut twin] = [LIBRARY, TWIN].map(|contestant| indexed(contestant, file));
-    for call in frames.chunks(1_024) {
-        library.call(call.as_flattened());
-        twin.call(call.as_flattened());
-        assert_eq!(library.answers()[..8 * call.len()], twin.answers()[..8 * call.len()], "the same answers");
+    for other in [Some(TWIN), BEFORE].into_iter().flatten() {
+        let [mut library, mut other] = [LIBRARY, other].map(|contestant| indexed(contestant, file));
+        for call in frames.chunks(1_024) {
+            library.call(call.as_flattened());
+            other.call(call.as_flattened());
+            assert_eq!(library.answers()[..8 * call.len()], other.answers()[..8 * call.len()], "the same answers");
+        }
     }
 }
 
@@ -210,32 +233,19 @@ fn same_answers(file: &File, frames: &[Frame]) {
 fn row(operation: &str, file: &File, rounds: &[Round], batch: usize) {
     let batch = batch.min(rounds[0].frames.len());
     let edits = operation == "insert" || operation == "delete";
-    let [library, twin, flat, rope] = best([
-        try_index(LIBRARY, file, rounds, batch),
-        try_index(TWIN, file, rounds, batch),
-        try_flat(file, rounds),
-        if edits { try_rope(file, rounds) } else { Box::new(|_| f64::NAN) },
+    let [library, before, twin, flat, rope] = best([
+        Some(try_index(LIBRARY, file, rounds, batch)),
+        BEFORE.map(|contestant| try_index(contestant, file, rounds, batch)),
+        Some(try_index(TWIN, file, rounds, batch)),
+        Some(try_flat(file, rounds)),
+        edits.then(|| try_rope(file, rounds)),
     ]);
-    let rope = if edits { rope } else { f64::NAN };
-    let shown = |value: f64, digits: usize| if value.is_nan() { "-".to_string() } else { format!("{value:.digits$}") };
-    println!(
-        "{operation:<8} {:>6} {batch:>6} {:>10} {:>10} {:>8} {:>10} {:>8} {:>10} {:>8}",
-        file.marks.len(),
-        shown(library, 1),
-        shown(twin, 1),
-        shown(library / twin, 2),
-        shown(flat, 1),
-        shown(library / flat, 2),
-        shown(rope, 1),
-        shown(library / rope, 2),
-    );
+    let times = times(library, &[twin, flat, rope], before, 1);
+    println!("{operation:<8} {:>6} {batch:>6} {times}", file.marks.len());
 }
 
 fn operations() {
-    println!(
-        "{:<8} {:>6} {:>6} {:>10} {:>10} {:>8} {:>10} {:>8} {:>10} {:>8}",
-        "command", "n", "a call", "library ns", "twin ns", "ratio", "flat ns", "ratio", "rope ns", "ratio"
-    );
+    println!("{:<8} {:>6} {:>6} {}", "command", "n", "a call", headings(&["twin", "flat", "rope"]));
     for length in LENGTHS {
         let file = some_file(length, NAME, length.div_ceil(24), usual_mark);
         for (operation, code) in [("access", 5), ("rank", 6), ("select", 7)] {
@@ -264,10 +274,7 @@ fn rounds(one: impl Fn(u64) -> Round) -> Vec<Round> {
 
 /// The check of a full pool: a call without frames, beside a plain sum of the bytes of all blocks held.
 fn checks() {
-    println!(
-        "\n{:<8} {:>6} {:>6} {:>10} {:>10} {:>8} {:>10} {:>8}",
-        "check", "marks", "names", "library ns", "twin ns", "ratio", "sum ns", "ratio"
-    );
+    println!("\n{:<8} {:>6} {:>6} {}", "check", "marks", "names", headings(&["twin", "sum"]));
     for (label, mark) in [("usual", usual_mark as fn(&mut Dice) -> u8), ("even", even_mark)] {
         for names in [1, 16] {
             let shares = |name: usize| 508 * (name + 1) / names - 508 * name / names;
@@ -286,13 +293,10 @@ fn checks() {
             let blocks = held(ready.pool());
             let summed =
                 one_try(CALLS, |_| (), |_, _| (0..CALLS).for_each(|_| _ = black_box(plain_sum(black_box(blocks)))));
-            let [library, twin, sum] = best([checked(LIBRARY), checked(TWIN), summed]);
-            println!(
-                "{label:<8} {:>6} {names:>6} {library:>10.0} {twin:>10.0} {:>8.2} {sum:>10.0} {:>8.2}",
-                files.iter().map(|file| file.marks.len()).sum::<usize>(),
-                library / twin,
-                library / sum
-            );
+            let [library, before, twin, sum] =
+                best([Some(checked(LIBRARY)), BEFORE.map(checked), Some(checked(TWIN)), Some(summed)]);
+            let marks = files.iter().map(|file| file.marks.len()).sum::<usize>();
+            println!("{label:<8} {marks:>6} {names:>6} {}", times(library, &[twin, sum], before, 0));
         }
     }
 }

@@ -1,4 +1,4 @@
-//! The library and the twin behind their C interfaces, and the rope behind its own.
+//! The library, the twin and another archive of the library behind their C interfaces, and the rope behind its own.
 
 #[path = "../interface.rs"]
 mod interface;
@@ -22,6 +22,18 @@ pub type Contestant = (Format, Run);
 
 pub const LIBRARY: Contestant = (forfochry_format, forfochry_run);
 pub const TWIN: Contestant = (twin_format, twin_run);
+
+/// The other archive, if `run.sh` was told one; it has put `before_` in front of all names that the archive defines.
+#[cfg(not(before))]
+pub const BEFORE: Option<Contestant> = None;
+#[cfg(before)]
+pub const BEFORE: Option<Contestant> = Some((before_forfochry_format, before_forfochry_run));
+
+#[cfg(before)]
+unsafe extern "C" {
+    fn before_forfochry_format(pool: *mut u8, pool_len: usize) -> u32;
+    fn before_forfochry_run(p: *mut u8, pn: usize, c: *const u8, cn: usize, a: *mut u8, an: usize) -> u64;
+}
 
 pub type Frame = [u8; 8];
 
