@@ -5,11 +5,11 @@ use mathlib.Core.List.{List, [], _∷_, map}
 use Prim.Native.Nat.{ℕ, _<_}
 use lib.ListN.{getD}
 use Rattle.geometry.specs.Limits.{names}
+use Rattle.lists.proofs.Froms.{length-from}
 use Rattle.machine.proofs.Runs.{same-for-name}
 use Rattle.machine.specs.Machine.{trees}
 use Rattle.machine.specs.OneName as OneName
 use Rattle.machine.specs.OneName.{HasNames, AlikeAt, beside, isTo, isOpening, answersFor}
-use Rattle.pool.proofs.Froms.{length-from}
 use Rattle.pool.proofs.Meanings.{part-meaning}
 use Rattle.pool.specs.Meaning.{meaningOf, meaning}
 use Rattle.protocol.specs.Frames.{bytesOfAnswer}

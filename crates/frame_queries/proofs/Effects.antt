@@ -7,9 +7,9 @@ use Prim.Native.Nat.{ℕ, _-_, _≤_, _<_}
 use native.Mathlib.Omega.{arith}
 use lib.ListN.{length}
 use Rattle.geometry.specs.Limits.{names, mostMarks}
+use Rattle.lists.proofs.Sums.{sumBelow-one}
 use Rattle.machine.specs.Machine.{trees}
 use Rattle.pool.proofs.Meanings.{part-meaning}
-use Rattle.pool.proofs.Sums.{sumBelow-one}
 use Rattle.pool.specs.Meaning.{meaning}
 use Rattle.pool.specs.Names.{recordOf, treeOf}
 use Rattle.pool.specs.Shares.{promisedShares}

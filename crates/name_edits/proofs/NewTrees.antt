@@ -9,9 +9,9 @@ use lib.ListN.{length, getD}
 use Rattle.geometry.specs.Layout.{mostHeight}
 use Rattle.geometry.specs.Limits.{directorySize, names, mostAlphabet, marksPerShare}
 use Rattle.geometry.specs.declared.Record.{Record}
+use Rattle.lists.specs.Items.{AllBelow}
 use Rattle.protocol.specs.Commands.{edited}
 use Rattle.protocol.specs.State.{Part, opened}
-use Rattle.sequence.specs.Alphabet.{AllBelow}
 use Rattle.sequence.specs.Definition1.{count}
 use Rattle.shape.proofs.Instances.{height-in-pool}
 use Rattle.shape.specs.Fill.{FilledT, rootLeast}

@@ -4,10 +4,10 @@ use mathlib.Core.List.{List}
 use Prim.Native.Nat.{ℕ, _+_, _*_, _≤_, _<_}
 use native.Mathlib.Omega.{arith}
 use Rattle.geometry.specs.Limits.{names, mostAlphabet, marksPerShare, mostMarks}
+use Rattle.lists.proofs.Sums.{sumBelow-one}
 use Rattle.shape.specs.Blocks.{splitsT}
 use Rattle.shape.specs.Sizes.{oneToAByte}
 use Rattle.pool.proofs.SoundNames.{insert-room}
-use Rattle.pool.proofs.Sums.{sumBelow-one}
 use Rattle.pool.specs.Names.{recordOf, treeOf}
 use Rattle.pool.specs.Shares.{promisedShares}
 use Rattle.pool.specs.Sound.{OpenName, Sound, SoundBelow}

@@ -10,8 +10,8 @@ use lib.ListN.{length, getD}
 use Rattle.geometry.specs.Layout.{headerSize}
 use Rattle.geometry.specs.Limits.{names}
 use Rattle.geometry.specs.declared.Record.{Record}
+use Rattle.lists.proofs.Items.{all-map}
 use Rattle.sequence.specs.Definition1.{count}
-use Rattle.sequence.proofs.Items.{all-map}
 use Rattle.protocol.specs.State.{Part}
 use Rattle.shape.specs.Trees.{Tree}
 use Rattle.pool.specs.Bytes.{byte, recordAt}

@@ -8,14 +8,14 @@ use Prim.Native.Nat.{ℕ, _+_, _≤_}
 use native.Mathlib.Omega.{arith}
 use lib.Dec.{leb}
 use lib.ListN.{length}
-use Rattle.sequence.specs.Alphabet.{AllBelow, sumBelow}
+use Rattle.lists.proofs.Sums.{sumBelow-add, sumBelow-same, sumBelow-ones}
+use Rattle.lists.specs.Items.{AllBelow, All}
+use Rattle.lists.specs.Sums.{sumBelow}
 use Rattle.sequence.specs.Definition1.{count}
-use Rattle.sequence.specs.Items.{All}
-use Rattle.sequence.proofs.Alphabets.{sumBelow-add, counts-add-up}
+use Rattle.sequence.proofs.Alphabets.{counts-add-up}
 use Rattle.sequence.proofs.Counts.{isMark-cases, isMark-same}
 use Rattle.shape.proofs.Choice.{by-leb}
 use Rattle.pool.specs.Sound.{Distinct}
-use Rattle.pool.proofs.Sums.{sumBelow-same, sumBelow-ones}
 
 module _ (P : ℕ → Type 0) where
   -- what holds of all the list holds of each number that stands in it, and the other way round

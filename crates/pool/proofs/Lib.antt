@@ -3,9 +3,6 @@ pub mod Changed
 pub mod Cuts
 pub mod Moves
 pub mod Written
-pub mod Froms
-pub mod Lists
-pub mod Sums
 pub mod Distincts
 pub mod Leaves
 pub mod Children

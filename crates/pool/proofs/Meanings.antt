@@ -12,22 +12,23 @@ use borrow.Author.Tests.{ne-eqb}
 use Rattle.geometry.specs.Layout.{kindClosed}
 use Rattle.geometry.specs.Limits.{names, blockSize, directorySize}
 use Rattle.geometry.specs.declared.Record.{Record}
+use Rattle.lists.proofs.Froms.{length-from, getD-from-start, from-set, total-from}
+use Rattle.lists.proofs.Sums.{sumBelow-same}
+use Rattle.lists.specs.Froms.{from}
+use Rattle.lists.specs.Sums.{total}
 use Rattle.protocol.specs.State.{Store, Part, State, closed, opened, partOf, sharesOf, promised, unpromised}
 use Rattle.protocol.specs.Valid.{ValidPart, Valid}
-use Rattle.shape.specs.Nested.{total}
 use Rattle.shape.specs.Trees.{Tree, marksT}
-use Rattle.pool.specs.Bytes.{shares, from}
+use Rattle.pool.specs.Bytes.{shares}
 use Rattle.pool.specs.Meaning.{meaningOf, meaning}
 use Rattle.pool.specs.Names.{recordOf, treeOf}
 use Rattle.pool.specs.Shares.{promisedShares, unpromisedShares}
 use Rattle.pool.specs.Sound.{ClosedName, OpenName, Sound}
 use Rattle.pool.specs.Trees.{shapeAt}
 use Rattle.pool.specs.Untouched.{Untouched}
-use Rattle.pool.proofs.Froms.{length-from, getD-from-start, from-set, total-from}
 use Rattle.pool.proofs.NamesKept.{record-kept, tree-kept, closed-kept, open-kept}
 use Rattle.pool.proofs.Written.{closed-record}
 use Rattle.pool.proofs.SoundNames.{open-marks}
-use Rattle.pool.proofs.Sums.{sumBelow-same}
 
 module _ (p : List ℕ) where
   pub closed-meaning : (name : ℕ) → ClosedName p name → meaningOf p name ≡ closed

@@ -10,7 +10,7 @@ use lib.Dec.{eqb}
 use Rattle.geometry.specs.Layout.{zeroAt, kindClosed}
 use Rattle.geometry.specs.Limits.{names}
 use Rattle.geometry.specs.declared.Record.{Record}
-use Rattle.sequence.specs.Items.{All}
+use Rattle.lists.specs.Items.{All}
 use Rattle.shape.specs.Fill.{rootLeast}
 use Rattle.shape.specs.Nested.{marksIn}
 use Rattle.shape.specs.Trees.{Tree}

@@ -12,11 +12,15 @@ use borrow.Author.Tests.{ne-eqb}
 use Rattle.geometry.specs.Layout.{kindClosed}
 use Rattle.geometry.specs.Limits.{names, marksPerShare}
 use Rattle.geometry.specs.declared.Record.{Record}
-use Rattle.sequence.specs.Alphabet.{AllBelow, sumBelow}
+use Rattle.lists.proofs.Froms.{all-from, joined-from}
+use Rattle.lists.proofs.Joins.{all-joined}
+use Rattle.lists.proofs.Sums.{sumBelow-one, sumBelow-less}
+use Rattle.lists.specs.Froms.{from}
+use Rattle.lists.specs.Items.{AllBelow, All}
+use Rattle.lists.specs.Sums.{sumBelow}
 use Rattle.sequence.specs.Definition1.{count}
-use Rattle.sequence.specs.Items.{All}
 use Rattle.sequence.proofs.Edits.{length-insert}
-use Rattle.sequence.proofs.Measures.{count-additive}
+use Rattle.sequence.proofs.Counts.{count-additive}
 use Rattle.shape.specs.Blocks.{blocksT, splitsT}
 use Rattle.shape.specs.Fill.{FilledT, rootLeast}
 use Rattle.shape.specs.Depth.{DepthRule}
@@ -27,17 +31,14 @@ use Rattle.shape.proofs.Filled.{insertT-filled}
 use Rattle.shape.proofs.Instances.{oneToAByte-proper, blocks-in-shares, depth-keeps-rule}
 use Rattle.shape.proofs.Marks.{insertT-marks}
 use Rattle.shape.proofs.Splits.{insertT-blocks}
-use Rattle.pool.specs.Bytes.{shares, from}
+use Rattle.pool.specs.Bytes.{shares}
 use Rattle.pool.specs.Names.{recordOf, treeOf, pathOf, blocksOf, heldBlocks}
 use Rattle.pool.specs.Shares.{freeBlocks, promisedShares, unpromisedShares}
 use Rattle.pool.specs.Sound.{ClosedName, OpenName, Distinct, Sound}
 use Rattle.pool.specs.Trees.{shapeAt, blocksAt}
 use Rattle.pool.proofs.Children.{length-blocksAt}
 use Rattle.pool.proofs.Distincts.{missing-and-standing}
-use Rattle.pool.proofs.Froms.{all-from, joined-from}
-use Rattle.pool.proofs.Lists.{all-joined}
 use Rattle.pool.proofs.SoundTrees.{sound-filled, sound-marks, sound-readable, sound-inside}
-use Rattle.pool.proofs.Sums.{sumBelow-one, sumBelow-less}
 use Rattle.pool.proofs.Ways.{Readable, length-entered}
 use Rattle.pool.proofs.Written.{closed-record}
 

@@ -6,7 +6,7 @@ use Prim.Native.Nat.{ℕ, zero, suc, _<_}
 use lib.ListN.{length, length-append}
 use Rattle.geometry.specs.Limits.{mostAlphabet}
 use Rattle.sequence.specs.Definition1.{count}
-use Rattle.sequence.proofs.Measures.{count-additive}
+use Rattle.sequence.proofs.Counts.{count-additive}
 use Rattle.shape.specs.Nested.{flat, marksIn}
 use Rattle.pool.specs.Blocks.{link, marksBelow, countBelow}
 use Rattle.pool.specs.Sound.{SoundBlock, SoundBelow, Tells}

@@ -6,8 +6,8 @@ use Prim.Native.Nat.{ℕ, zero, suc, _≤_, _<_}
 use native.Mathlib.Omega.{arith}
 use lib.ListN.{length, getD, length-append}
 use Rattle.geometry.specs.Layout.{mostLeaf, mostBranch}
+use Rattle.lists.specs.Items.{All}
 use Rattle.sequence.specs.Definition1.{count}
-use Rattle.sequence.specs.Items.{All}
 use Rattle.shape.specs.Fill.{Within}
 use Rattle.shape.specs.Level.{seat, rest, chosen}
 use Rattle.shape.specs.Nested.{Node, flat}

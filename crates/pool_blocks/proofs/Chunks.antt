@@ -6,8 +6,8 @@ use native.Mathlib.Nat.{zero-add}
 use native.Mathlib.Omega.{arith}
 use lib.ListN.{length, take, drop, length-drop, take-append-drop}
 use lib.Seq.{length-take-le, take-all, take-take, take-append-le, drop-append-le, take-at, drop-at}
-use Rattle.pool.specs.Bytes.{from}
-use Rattle.pool_blocks.proofs.Stretches.{drop-stretch}
+use Rattle.lists.proofs.Cuts.{drop-stretch}
+use Rattle.lists.specs.Froms.{from}
 
 -- so many chunks of unit bytes
 unfoldable pub chunks : ℕ → ℕ → List ℕ → List (List ℕ)

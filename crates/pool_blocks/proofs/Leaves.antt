@@ -6,6 +6,7 @@ use native.Mathlib.Nat.{one-mul}
 use native.Mathlib.Omega.{arith}
 use lib.ListN.{length, take, drop, length-append}
 use Rattle.geometry.specs.Layout.{formAt, countAt, mostLeaf}
+use Rattle.lists.proofs.Cuts.{cut-length, cut-getD, cut-one}
 use Rattle.sequence.specs.Definition1.{access, select, insert, delete}
 use Rattle.shape.specs.Level.{middle, halves}
 use Rattle.pool.specs.Blocks.{entries, leafMarks}
@@ -13,7 +14,6 @@ use Rattle.pool.specs.Bytes.{byte, blockAt}
 use Rattle.pool.specs.Changes.{Outside}
 use Rattle.pool.specs.Words.{WordAt, PutByte}
 use Rattle.pool.proofs.Changed.{only-block, only-then, word-behind}
-use Rattle.pool.proofs.Cuts.{cut-length, cut-byte, cut-one}
 use Rattle.pool_blocks.specs.Contents.{contents, LeafAt}
 use Rattle.pool_blocks.specs.Moves.{Opened, Closed, CutOff, Joined, SharedOut}
 use Rattle.pool_blocks.specs.Leaves.{MarkInserted, MarkDeleted, LeafCut, LeavesJoined, LeavesShared}
@@ -34,7 +34,7 @@ module _ (p : List ℕ) (b : ℕ) (leaf : LeafAt p b) where
 
   pub mark-is : (i : ℕ) → 1 ≤ i → i ≤ length (leafMarks p b) → byte p (blockAt b + (i - 1)) ≡ access (leafMarks p b) i
   unfolding leafMarks access
-  mark-is i one within = sym (cut-byte p (blockAt b) (entries p b) (i - 1) (omega (arith, leaf-size)))
+  mark-is i one within = sym (cut-getD p (blockAt b) (entries p b) (i - 1) (omega (arith, leaf-size)))
 
   pub found-is : (n c j r : ℕ) → WordAt p (blockAt b + countAt) n → r ≡ select c (take (blockAt b + n - blockAt b) (drop (blockAt b) p)) j
       → r ≡ select c (leafMarks p b) j

@@ -8,15 +8,16 @@ use native.Mathlib.Omega.{arith}
 use lib.ListN.{length, take, drop}
 use lib.Seq.{take-take, take-append-le, take-append-add, drop-append-le, drop-append-add}
 use Rattle.geometry.specs.Layout.{formAt, countAt}
+use Rattle.lists.proofs.Cuts.{cut-length, cut-two, drop-stretch}
 use Rattle.pool.specs.Blocks.{formOf, entries}
 use Rattle.pool.specs.Bytes.{blockAt}
 use Rattle.pool.specs.Changes.{Only}
 use Rattle.pool.specs.Words.{WordAt, PutWord, Moved}
 use Rattle.pool.proofs.Changed.{only-block, only-then, only-wider, word-other}
-use Rattle.pool.proofs.Cuts.{cut-length, cut-before, cut-behind, cut-moved, cut-two}
+use Rattle.pool.proofs.Cuts.{cut-before, cut-behind, cut-moved}
 use Rattle.pool_blocks.specs.Contents.{contents, Room, Counted}
 use Rattle.pool_blocks.specs.Moves.{Recut, SharedOut}
-use Rattle.pool_blocks.proofs.Stretches.{drop-stretch, contents-is, start-other, stretch-other}
+use Rattle.pool_blocks.proofs.Stretches.{contents-is, start-other, stretch-other}
 
 -- what the entries of two blocks take where the left one gets more
 pub record LeftFits (unit here there many : ℕ) : Type 0 where

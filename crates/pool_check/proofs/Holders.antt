@@ -9,15 +9,16 @@ use native.Mathlib.Omega.{arith}
 use borrow.Author.Tests.{leb-false}
 use lib.ListN.{length, getD}
 use Rattle.geometry.specs.Limits.{names}
+use Rattle.lists.proofs.Froms.{joined-from}
+use Rattle.lists.proofs.Sums.{sumBelow-one, sumBelow-two}
+use Rattle.lists.specs.Items.{AllBelow}
+use Rattle.lists.specs.Sums.{sumBelow}
 use Rattle.pool.specs.Bytes.{shares}
 use Rattle.pool.specs.Names.{blocksOf, heldBlocks}
 use Rattle.pool.specs.Sound.{Distinct}
 use Rattle.pool.proofs.Distincts.{all-standing}
-use Rattle.pool.proofs.Froms.{joined-from}
 use Rattle.pool.proofs.SoundNames.{closed-blocks, open-inside}
-use Rattle.pool.proofs.Sums.{sumBelow-one, sumBelow-two}
-use Rattle.sequence.proofs.Measures.{count-additive}
-use Rattle.sequence.specs.Alphabet.{AllBelow, sumBelow}
+use Rattle.sequence.proofs.Counts.{count-additive}
 use Rattle.sequence.specs.Definition1.{count}
 use Rattle.pool_check.specs.Maps.{New, mapTo, MapOf}
 use Rattle.pool_check.specs.Parts.{SoundName}

@@ -7,10 +7,11 @@ use Prim.Native.Nat.{ℕ, _+_, _≤_}
 use native.Mathlib.Omega.{arith}
 use lib.Dec.{eqb}
 use borrow.Author.Tests.{eq-eqb, ne-eqb}
-use Rattle.pool_entries.proofs.Totals.{sum-more, sum-all}
 use Rattle.geometry.specs.Layout.{recordSize, kindClosed, qAt}
 use Rattle.geometry.specs.Limits.{names, mostAlphabet}
 use Rattle.geometry.specs.declared.Record.{Record}
+use Rattle.lists.proofs.Sums.{sum-more, sum-all}
+use Rattle.lists.specs.Sums.{sumBelow}
 use Rattle.pool.specs.Bytes.{recordAt}
 use Rattle.pool.specs.Names.{recordOf, blocksOf}
 use Rattle.pool.specs.Shares.{promisedShares}
@@ -19,7 +20,6 @@ use Rattle.pool.specs.Trees.{blocksAt, ownMarks}
 use Rattle.pool.specs.Words.{WordAt}
 use Rattle.pool.proofs.Written.{closed-record}
 use Rattle.pool.proofs.Summaries.{own-marks}
-use Rattle.sequence.specs.Alphabet.{sumBelow}
 use Rattle.shape.specs.Fill.{rootLeast}
 use Rattle.pool_check.specs.Maps.{Walked}
 use Rattle.pool_check.specs.Parts.{Zeros, OpenRecord, MarksFit, WalkedTree, SoundName}

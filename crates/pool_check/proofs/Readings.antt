@@ -9,10 +9,10 @@ use native.Mathlib.Omega.{arith}
 use borrow.Author.Tests.{lt-leb}
 use lib.ListN.{getD}
 use Rattle.geometry.specs.Limits.{names}
+use Rattle.lists.specs.Sums.{sumBelow}
 use Rattle.pool.specs.Bytes.{shares}
 use Rattle.pool.specs.Names.{blocksOf, heldBlocks}
 use Rattle.pool.specs.Shares.{isHeld}
-use Rattle.sequence.specs.Alphabet.{sumBelow}
 use Rattle.sequence.specs.Definition1.{count}
 use Rattle.pool_check.specs.Maps.{MapOf}
 use Rattle.pool_check.proofs.Holders.{times, times-held}

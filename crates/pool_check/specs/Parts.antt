@@ -7,7 +7,7 @@ use Prim.Native.Nat.{ℕ, zero, suc, _+_, _*_, _≤_, _<_}
 use lib.ListN.{length}
 use Rattle.geometry.specs.Layout as Layout
 use Rattle.geometry.specs.Limits.{blockSize, leastAlphabet, mostAlphabet, marksPerShare, mostShares}
-use Rattle.sequence.specs.Alphabet.{AllBelow}
+use Rattle.lists.specs.Items.{AllBelow}
 use Rattle.sequence.specs.Definition1.{count}
 use Rattle.shape.specs.Sizes.{oneToAByte, least}
 use Rattle.pool.specs.Blocks.{leafMarks, link, marksBelow, countBelow}

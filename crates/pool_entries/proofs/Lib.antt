@@ -1,5 +1,4 @@
 pub mod Levels
-pub mod Totals
 pub mod Filling
 pub mod Summaries
 pub mod Written

@@ -3,7 +3,7 @@ use mathlib.Core.Path.{_≡_, refl}
 use Prim.Native.Nat.{ℕ, zero, suc, _+_, _≤_, _<_}
 use native.Mathlib.Omega.{arith}
 use Rattle.geometry.specs.Layout.{leastBranch, mostBranch}
-use Rattle.sequence.specs.Alphabet.{sumBelow}
+use Rattle.lists.specs.Sums.{sumBelow}
 use Rattle.pool_entries.specs.Seats.{Seated}
 use Rattle.pool_entries.specs.declared.Seat.{Seat}
 

@@ -2,9 +2,9 @@
 ghost use mathlib.Core.Path.{_≡_};
 ghost use Prim.Native.Nat.{_+_, _≤_, _<_};
 ghost use Rattle.geometry.specs.Layout.{leastBranch, mostBranch, entrySize, wordSize};
+ghost use Rattle.lists.specs.Sums.{sumBelow};
 ghost use Rattle.pool.specs.Blocks.{entries, marksBelow};
 ghost use Rattle.pool.specs.Bytes.{shares};
-ghost use Rattle.sequence.specs.Alphabet.{sumBelow};
 ghost use Rattle.pool_entries.specs.Summaries.{Is, wordsAt};
 ghost use Rattle.pool_entries.specs.Seats.{Seated};
 use crate::Seat;

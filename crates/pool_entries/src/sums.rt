@@ -2,9 +2,9 @@
 ghost use mathlib.Core.Path.{_≡_};
 ghost use Prim.Native.Nat.{_+_, _≤_, _<_};
 ghost use Rattle.geometry.specs.Layout.{mostLeaf, mostBranch, entrySize, wordSize};
+ghost use Rattle.lists.specs.Sums.{sumBelow};
 ghost use Rattle.pool.specs.Blocks.{entries};
 ghost use Rattle.pool.specs.Bytes.{shares};
-ghost use Rattle.sequence.specs.Alphabet.{sumBelow};
 ghost use Rattle.shape.specs.Sizes.{oneToAByte, most};
 ghost use Rattle.pool_entries.specs.Summaries.{wordsAt, SummaryOf, SmallSums};
 use crate::Summary;

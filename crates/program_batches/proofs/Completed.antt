@@ -12,6 +12,7 @@ use lib.Dec.{eqb}
 use lib.ListN.{length, getD, take, drop}
 use lib.Seq.{take-at, drop-at, take-all, take-add, drop-drop, getD-drop, paste, length-paste, take-paste, drop-paste}
 use Rattle.geometry.specs.Limits.{frameSize}
+use Rattle.lists.specs.Joins.{joined}
 use Rattle.text_hex.specs.Digits.{digitOf, digitsOf}
 use Rattle.text_hex.specs.Lines.{lineOf, lineSize, digitsOfFrame}
 use Rattle.text_hex.specs.declared.read.Reading.{Reading}
@@ -19,7 +20,6 @@ use Rattle.text_hex.specs.declared.read.Reading.the-variants.{Frame, Bad}
 use Rattle.text_hex.proofs.Written.{length-of-line}
 use Rattle.protocol.specs.Frames.{commandOf}
 use Rattle.protocol.specs.declared.Command.{Command}
-use Rattle.shape.specs.Nested.{joined}
 use Rattle.program_batches.specs.Answers.{badAnswer, lineOfAnswer, lineOfBytes}
 use Rattle.program_batches.specs.Batch.{draftOf, keptByte, keptIn, completed, PutsAnswer, Completes}
 use Rattle.program_batches.proofs.Framed.{commandsRead}

@@ -8,6 +8,9 @@ use native.Mathlib.Omega.{arith}
 use lib.ListN.{length, take, drop, length-append, length-drop}
 use lib.Seq.{take-all, take-add, paste, take-paste, length-paste}
 use Rattle.geometry.specs.Limits.{frameSize}
+use Rattle.lists.proofs.Cuts.{rest-is}
+use Rattle.lists.proofs.Joins.{joined-append}
+use Rattle.lists.specs.Joins.{joined}
 use Rattle.text_hex.specs.Lines.{frameOf, lineOf, lineSize}
 use Rattle.text_hex.specs.declared.read.Reading.{Reading}
 use Rattle.text_hex.specs.declared.read.Reading.the-variants.{Frame, Bad}
@@ -15,11 +18,8 @@ use Rattle.text_hex.proofs.Written.{length-of-line}
 use Rattle.text_lines.specs.Lines.{Stands, Holds, Gathers, ended, left, trim, piece, endBytes}
 use Rattle.text_lines.specs.declared.Gathered.{Gathered}
 use Rattle.text_lines.specs.declared.Gathering.{Gathering}
-use Rattle.text_lines.proofs.Chunks.{rest-is}
 use Rattle.text_lines.proofs.Cut.{ended-append, left-append, ended-plain, left-plain, ended-line, left-line}
 use Rattle.protocol.specs.Frames.{eightBytes, bytesOfAnswer}
-use Rattle.shape.specs.Nested.{joined}
-use Rattle.shape.proofs.Folds.{joined-append}
 use Rattle.program_batches.specs.Batch.{draftOf, bytesOf, PutsLine, ReadsLines, ReadsOn, RoomForLine}
 use Rattle.program_batches.specs.declared.Batch.{Batch}
 use Rattle.program_batches.proofs.Cut.{frame-of-held}

@@ -8,13 +8,13 @@ use lib.ListN.{length, take, drop, length-append, length-drop}
 use borrow.Author.Tests.{lt-ltb, le-ltb}
 use lib.Seq.{take-all, take-add, paste, take-paste, length-paste}
 use Rattle.geometry.specs.Limits.{mostMarks, lastColumn}
+use Rattle.lists.proofs.Cuts.{rest-is}
 use Rattle.text_fixed_form.specs.Mark.{markOf}
 use Rattle.text_hex.specs.Lines.{lineOf, lineSize}
 use Rattle.text_hex.proofs.Written.{length-of-line}
 use Rattle.text_lines.specs.Lines.{Stands, Holds, Gathers, Finishes, ended, left, trim, piece, endBytes, linesOf}
 use Rattle.text_lines.specs.declared.Gathered.{Gathered}
 use Rattle.text_lines.specs.declared.Gathering.{Gathering}
-use Rattle.text_lines.proofs.Chunks.{rest-is}
 use Rattle.text_lines.proofs.Cut.{ended-append, left-append, ended-plain, left-plain, ended-line, left-line}
 use Rattle.text_lines.proofs.Held.{no-last-line, last-line}
 use Rattle.protocol.specs.Commands.{insertCode}

@@ -6,6 +6,8 @@ use Prim.Native.Nat.{ℕ}
 use native.Mathlib.Omega.{arith}
 use lib.ListN.{length}
 use lib.Seq.{take-at, drop-at, take-all}
+use Rattle.lists.specs.Froms.{from}
+use Rattle.lists.specs.Joins.{joined}
 use Rattle.program_batches.specs.Answers.{badAnswer, lineOfAnswer}
 use Rattle.program_batches.specs.Batch.{draftOf, bytesOf, completed}
 use Rattle.program_batches.proofs.Completed.{take-line, drop-line, zeros-keep, bad-keeps-none}
@@ -18,13 +20,11 @@ use Rattle.text_hex.specs.declared.read.Reading.the-variants.{Frame, Bad}
 use Rattle.call_run.specs.Runs.{eights, commandsIn}
 use Rattle.call_run.proofs.Cutting.{commands-append}
 use Rattle.machine.specs.Machine.{trees}
-use Rattle.pool.specs.Bytes.{from}
 use Rattle.protocol.specs.Frames.{commandOf, eightBytes, bytesOfCommand, bytesOfAnswer}
 use Rattle.protocol.specs.Respond.{respond, answersTo, stateAfter}
 use Rattle.protocol.specs.State.{State}
 use Rattle.protocol.specs.declared.Answer.{Answer}
 use Rattle.protocol.proofs.Bytes.{command-of-bytes, length-of-answer}
-use Rattle.shape.specs.Nested.{joined}
 use Rattle.shape.specs.Trees.{Tree}
 use Rattle.program_sessions.specs.Session.{answersToLines, stateAfterLines}
 

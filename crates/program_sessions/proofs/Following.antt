@@ -9,6 +9,8 @@ use native.Mathlib.Decide.{ℕ-discrete}
 use native.Mathlib.Omega.{arith}
 use lib.ListN.{length, take, drop, length-map, take-append-drop}
 use lib.Seq.{length-take-le}
+use Rattle.lists.proofs.Joins.{joined-append}
+use Rattle.lists.specs.Joins.{joined}
 use Rattle.program_batches.specs.Answers.{lineOfAnswer}
 use Rattle.program_batches.specs.Batch.{draftOf, bytesOf, keptIn, completed, BatchRead, Completes}
 use Rattle.program_batches.specs.declared.Batch.{Batch}
@@ -34,9 +36,7 @@ use Rattle.pool.proofs.FormattedSound.{length-formatted, formatted-sound, forma
 use Rattle.protocol.specs.Frames.{bytesOfAnswer}
 use Rattle.protocol.specs.Respond.{answersTo, stateAfter}
 use Rattle.protocol.specs.State as State
-use Rattle.shape.specs.Nested.{joined}
 use Rattle.shape.specs.Trees.{Tree}
-use Rattle.shape.proofs.Folds.{joined-append}
 use Rattle.program_sessions.specs.Call.{Asks, AnswersLines}
 use Rattle.program_sessions.specs.Session.{responseTo, answersToLines, stateAfterLines, atStart, writtenFor, sessionOf}
 use Rattle.program_sessions.specs.Stream.{readFrom, SessionFollows, SessionStarts, SessionTakesIn, SessionEnds}

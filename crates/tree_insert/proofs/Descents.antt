@@ -8,7 +8,8 @@ use native.Mathlib.Nat.{eq-zero-or-pos}
 use native.Mathlib.Omega.{arith}
 use lib.ListN.{length, take, drop, length-append}
 use Rattle.geometry.specs.Layout.{leastBranch, mostBranch}
-use Rattle.sequence.specs.Alphabet.{sumBelow}
+use Rattle.lists.proofs.Sums.{sumBelow-one}
+use Rattle.lists.specs.Sums.{sumBelow, total}
 use Rattle.sequence.specs.Definition1.{isMark, count}
 use Rattle.shape.proofs.Choice.{by-leb}
 use Rattle.shape.proofs.Filled.{root-least}
@@ -16,10 +17,9 @@ use Rattle.shape.proofs.Instances.{oneToAByte-proper}
 use Rattle.shape.proofs.Steps.{splits-takes}
 use Rattle.shape.specs.Blocks.{divides, splits}
 use Rattle.shape.specs.Level.{Takes}
-use Rattle.shape.specs.Nested.{Node, total, marksIn}
+use Rattle.shape.specs.Nested.{Node, marksIn}
 use Rattle.shape.specs.Sizes.{oneToAByte, least}
 use Rattle.pool.proofs.Children.{shape-around, told-all, count-blocks}
-use Rattle.pool.proofs.Sums.{sumBelow-one}
 use Rattle.pool.specs.Blocks.{entries, link, marksBelow}
 use Rattle.pool.specs.Bytes.{shares}
 use Rattle.pool.specs.Sound.{SoundBlock}

@@ -4,7 +4,8 @@ use mathlib.Core.List.{List}
 use Prim.Native.Nat.{ℕ, zero, suc, _+_, _-_, _*_, _^_, _≤_, _<_}
 use native.Mathlib.Omega.{arith}
 use lib.ListN.{length}
-use Rattle.pool_entries.proofs.Totals.{sum-counts}
+use Rattle.lists.specs.Sums.{sumBelow}
+use Rattle.pool_entries.proofs.Summaries.{sum-counts}
 use Rattle.pool_entries.specs.Summaries.{Is, wordsAt}
 use Rattle.geometry.specs.Layout.{leastBranch, mostBranch, entryCountsAt, wordSize}
 use Rattle.geometry.specs.Limits.{mostAlphabet}
@@ -18,7 +19,6 @@ use Rattle.pool.specs.Trees.{shapeAt, ownCount}
 use Rattle.pool.specs.Words.{wordLimit}
 use Rattle.sequence.proofs.Counts.{count-le-length}
 use Rattle.sequence.proofs.Ranks.{rank-length}
-use Rattle.sequence.specs.Alphabet.{sumBelow}
 use Rattle.sequence.specs.Definition1.{count, rank}
 use Rattle.shape.specs.Fill.{rootLeast}
 use Rattle.shape.specs.Nested.{flat, marksIn}

@@ -4,6 +4,8 @@ use mathlib.Core.List.{List}
 use Prim.Native.Nat.{ℕ, _+_, _-_, _*_, _≤_, _<_, min}
 use native.Mathlib.Omega.{arith}
 use lib.ListN.{length, length-append}
+use Rattle.lists.proofs.Sums.{sumBelow-one}
+use Rattle.lists.specs.Sums.{sumBelow}
 use Rattle.pool_blocks.specs.Contents.{LeafAt}
 use Rattle.pool_entries.proofs.Levels.{at-leaf, at-branch}
 use Rattle.pool_entries.proofs.SeatedChildren.{seated-range, seated-path}
@@ -14,10 +16,8 @@ use Rattle.pool.specs.Blocks.{entries, leafMarks, link}
 use Rattle.pool.specs.Sound.{SoundBlock}
 use Rattle.pool.specs.Trees.{shapeAt}
 use Rattle.pool.proofs.Children.{told-all}
-use Rattle.pool.proofs.Sums.{sumBelow-one}
-use Rattle.sequence.specs.Alphabet.{sumBelow}
 use Rattle.sequence.specs.Definition1.{count, access, rank, select}
-use Rattle.sequence.proofs.Measures.{count-additive}
+use Rattle.sequence.proofs.Counts.{count-additive}
 use Rattle.sequence.proofs.Ranks.{rank-le-place}
 use Rattle.sequence.proofs.Selects.{select-le-length}
 use Rattle.shape.specs.Fill.{Within}

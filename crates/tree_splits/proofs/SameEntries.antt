@@ -5,11 +5,11 @@ use Prim.Native.Nat.{ℕ, _+_, _≤_}
 use native.Mathlib.Omega.{arith}
 use lib.ListN.{length}
 use Rattle.geometry.specs.Layout.{entrySize, mostBranch}
-use Rattle.pool.proofs.Cuts.{cut-same}
+use Rattle.lists.proofs.Cuts.{cut-same}
+use Rattle.lists.proofs.Froms.{from-same}
+use Rattle.lists.specs.Froms.{from}
 use Rattle.pool.proofs.Frames.{same-byte, same-entries}
-use Rattle.pool.proofs.Froms.{from-same}
 use Rattle.pool.specs.Blocks.{entries, entryAt}
-use Rattle.pool.specs.Bytes.{from}
 use Rattle.pool.specs.Changes.{SameBlock}
 use Rattle.pool_blocks.specs.Contents.{entryBytes, entryList}
 

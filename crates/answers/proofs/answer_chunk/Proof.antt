@@ -5,7 +5,7 @@ use native.Mathlib.Omega.{arith}
 use borrow.Author.Needs.{needs}
 use lib.ListN.{length}
 use lib.Seq.{length-take-le}
-use Rattle.text_lines.proofs.Chunks.{length-rest}
+use Rattle.lists.proofs.Cuts.{length-rest}
 use Rattle.answers.proofs.answer_chunk.Statement.{statement}
 use Rattle.answers.proofs.answer_chunk.Tie as tie
 

@@ -5,8 +5,8 @@ use native.Mathlib.Omega.{arith}
 use borrow.Author.Needs.{needs}
 use lib.ListN.{length}
 use lib.Seq.{length-take-le}
+use Rattle.lists.proofs.Cuts.{length-rest}
 use Rattle.text_hex.specs.Lines.{lineSize}
-use Rattle.text_lines.proofs.Chunks.{length-rest}
 use Rattle.marks.proofs.write_frames.Statement.{statement}
 use Rattle.marks.proofs.write_frames.Tie as tie
 

@@ -5,7 +5,7 @@ use Prim.Native.Nat.{ℕ, zero, suc, _+_, _-_, _≤_, _<_}
 use native.Mathlib.Omega.{arith}
 use borrow.Author.Needs.{needs}
 use lib.ListN.{length}
-use Rattle.text_lines.proofs.Chunks.{length-rest}
+use Rattle.lists.proofs.Cuts.{length-rest}
 use Rattle.program_insertions.specs.Stream.{FileTakesIn}
 use Rattle.program_insertions.proofs.Steps.{none-yet, both-taken}
 use Rattle.program_insertions.proofs.take_in.Statement.{statement}

@@ -2,11 +2,11 @@ use borrow.Author.Needs.{needs}
 -- `pool_check::names::promised` meets its contract. The loop's invariant: `sum` is what the names passed are promised, each of which fits a word.
 use mathlib.Core.Path.{_≡_}
 use Prim.Native.Nat.{_-_, _*_, _≤_}
-use Rattle.pool_entries.proofs.Totals.{sum-none}
 use Rattle.geometry.specs.Limits.{names}
+use Rattle.lists.proofs.Sums.{sum-none}
+use Rattle.lists.specs.Sums.{sumBelow}
 use Rattle.pool.specs.Names.{recordOf}
 use Rattle.pool.specs.Words.{wordLimit}
-use Rattle.sequence.specs.Alphabet.{sumBelow}
 use Rattle.pool_check.proofs.Naming.{promise-more, promise-all}
 use Rattle.pool_check.proofs.names.promised.Statement.{statement}
 use Rattle.pool_check.proofs.names.promised.Tie as tie

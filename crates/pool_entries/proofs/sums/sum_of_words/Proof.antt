@@ -2,10 +2,10 @@
 use borrow.Author.Needs.{needs}
 use mathlib.Core.Path.{_≡_}
 use Prim.Native.Nat.{_-_, _*_, _≤_}
+use Rattle.lists.proofs.Sums.{sum-none, sum-more, sum-all}
+use Rattle.lists.specs.Sums.{sumBelow}
 use Rattle.pool.specs.Words.{wordLimit}
-use Rattle.sequence.specs.Alphabet.{sumBelow}
 use Rattle.pool_entries.specs.Summaries.{wordsAt}
-use Rattle.pool_entries.proofs.Totals.{sum-none, sum-more, sum-all}
 use Rattle.pool_entries.proofs.sums.sum_of_words.Statement.{statement}
 use Rattle.pool_entries.proofs.sums.sum_of_words.Tie as tie
 

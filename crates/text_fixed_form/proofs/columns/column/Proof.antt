@@ -4,8 +4,8 @@ use mathlib.Core.Path.{sym}
 use Prim.Native.Nat.{_-_}
 use denote.Ref.{now}
 use lib.ListN.{List·getD-eq-default}
+use Rattle.lists.proofs.Cuts.{getD-there}
 use Rattle.text_fixed_form.specs.Mark.{blank}
-use Rattle.text_fixed_form.proofs.Lists.{getD-there}
 use Rattle.text_fixed_form.proofs.columns.column.Statement.{statement}
 use Rattle.text_fixed_form.proofs.columns.column.Tie as tie
 
