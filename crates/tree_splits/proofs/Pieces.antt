@@ -20,7 +20,7 @@ module _ {A B : Type 0} (f : A → B) where
   unfolding halves
   map-halves xs =
       let e : middle (map f xs) ≡ middle xs = ap (λ n. n / 2) (length-map xs f) in
-      rw e (ap₂ (λ x y. x ∷ y ∷ []) (map-take (middle xs) xs) (map-drop (middle xs) xs))
+      rw e (ap₂ (λ x y. x ∷ y ∷ []) (map-take f (middle xs) xs) (map-drop f (middle xs) xs))
 
   -- each item of the pieces mapped
   pub map-chop : (most : ℕ) (xs : List A) → map (map f) (chop most xs) ≡ chop most (map f xs)
