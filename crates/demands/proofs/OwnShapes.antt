@@ -9,11 +9,11 @@ use native.Mathlib.Omega.{arith}
 use borrow.Author.Tests.{eqb-true, eqb-false}
 use Rattle.geometry.specs.Limits.{names}
 use Rattle.lists.specs.Items.{All}
+use Rattle.pool.proofs.Meaning.{part-meaning}
 use Rattle.call_run.specs.Runs.{Runs, commandsIn}
 use Rattle.machine.proofs.OwnParts.{reply-at, others-stay, opening-starts-afresh}
 use Rattle.machine.specs.Machine.{trees}
 use Rattle.machine.specs.OneName.{beside, isTo, isOpening, framesTo}
-use Rattle.pool.proofs.Meanings.{part-meaning}
 use Rattle.pool.specs.Meaning.{meaningOf, meaning}
 use Rattle.protocol.proofs.Accepted.{open-accepted}
 use Rattle.protocol.proofs.Replies.{refused-reply, respond-status, own-part-after}

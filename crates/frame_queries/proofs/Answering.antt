@@ -7,7 +7,6 @@ use lib.ListN.{length}
 use Rattle.geometry.specs.Limits.{names, directorySize, mostAlphabet}
 use Rattle.geometry.specs.declared.Record.{Record}
 use Rattle.machine.specs.Machine.{trees}
-use Rattle.pool.proofs.Meanings.{unpromised-meaning}
 use Rattle.pool.specs.Meaning.{meaning}
 use Rattle.pool.specs.Names.{recordOf, treeOf}
 use Rattle.pool.specs.Shares.{unpromisedShares}
@@ -18,6 +17,7 @@ use Rattle.protocol.specs.Respond.{accepted}
 use Rattle.protocol.specs.State.{Part, alphabetOf, marksOf, partOf, unpromised}
 use Rattle.protocol.specs.declared.Answer.{Answer}
 use Rattle.protocol.specs.declared.Command.{Command}
+use Rattle.pool.proofs.Meaning.{unpromised-meaning}
 use Rattle.tree_query.specs.Answers.{FoundOf}
 use Rattle.tree_query.specs.declared.Found.{Found}
 use Rattle.sequence.proofs.Ranks.{rank-le-place}
@@ -55,7 +55,7 @@ module _ (p : List ℕ) (c : Command) (a : Accepted p c) (is : c .code ≡ acces
 
   module _ (found : Found) (answer : FoundOf p (c .name) (c .number) found) where
     pub depth-fits : found .blocks < 256
-    depth-fits = omega (arith, answer .depth, depth-height (c .number) (treeOf p (c .name)), access-open .opened .height)
+    depth-fits = omega (arith, answer .depth, depth-height (c .number) (treeOf p (c .name)), access-open .opened .entry .height)
 
     pub access-answers : _≡_ {A = Answer} (record { status = 0; name = c .name; symbol = found .mark; depth = found .blocks; value = 0 }) (answerOf p c)
     access-answers =
@@ -77,7 +77,7 @@ module _ (p : List ℕ) (c : Command) (a : Accepted p c) (is : c .code ≡ rankC
   rank-ready = (
     (rank-open .low, rank-open .opened),
     (
-      omega (arith, rank-allowed .symbol, ap alphabetOf (rank-open .part), rank-open .opened .alphabetMost),
+      omega (arith, rank-allowed .symbol, ap alphabetOf (rank-open .part), rank-open .opened .entry .alphabetMost),
       omega (arith, rank-allowed .high, ap (λ (part : Part Tree). length (marksOf trees part)) (rank-open .part)),
     ),
   )
@@ -115,7 +115,7 @@ module _ (p : List ℕ) (c : Command) (a : Accepted p c) (is : c .code ≡ selec
   select-ready = (
     (select-open .low, select-open .opened),
     (
-      omega (arith, select-allowed .symbol, ap alphabetOf (select-open .part), select-open .opened .alphabetMost),
+      omega (arith, select-allowed .symbol, ap alphabetOf (select-open .part), select-open .opened .entry .alphabetMost),
       select-allowed .low,
       omega (arith, select-allowed .high, ap (λ (part : Part Tree). count (c .symbol) (marksOf trees part)) (select-open .part)),
     ),

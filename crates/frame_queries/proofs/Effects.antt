@@ -9,41 +9,20 @@ use lib.ListN.{length}
 use Rattle.geometry.specs.Limits.{names, mostMarks}
 use Rattle.lists.proofs.Sums.{sumBelow-one}
 use Rattle.machine.specs.Machine.{trees}
-use Rattle.pool.proofs.Meanings.{part-meaning}
 use Rattle.pool.specs.Meaning.{meaning}
 use Rattle.pool.specs.Names.{recordOf, treeOf}
 use Rattle.pool.specs.Shares.{promisedShares}
 use Rattle.pool.specs.Sound.{ClosedName, OpenName, Sound}
 use Rattle.protocol.proofs.Accepted.{name-is-below}
 use Rattle.protocol.proofs.Replies.{accepted-reply, respond-answer}
-use Rattle.protocol.specs.Commands.{
-  Effect,
-  openCode,
-  closeCode,
-  insertCode,
-  deleteCode,
-  accessCode,
-  rankCode,
-  selectCode,
-  lengthCode,
-  unpromisedCode,
-  rows,
-  rowFor,
-  opens,
-  closes,
-  inserts,
-  deletes,
-  accesses,
-  ranks,
-  selects,
-  tells,
-  tellsUnpromised,
-}
+use Rattle.protocol.specs.Commands.{openCode, closeCode, insertCode, deleteCode, accessCode, rankCode, selectCode, lengthCode, unpromisedCode}
+use Rattle.protocol.specs.Commands.{Effect, rows, rowFor, opens, closes, inserts, deletes, accesses, ranks, selects, tells, tellsUnpromised}
 use Rattle.protocol.specs.Respond.{accepted, reply}
 use Rattle.protocol.specs.State.{Part, closed, isOpen, partOf, unpromised}
 use Rattle.protocol.specs.State as State
 use Rattle.protocol.specs.declared.Command.{Command}
 use Rattle.shape.specs.Trees.{Tree, marksT}
+use Rattle.pool.proofs.Meaning.{part-meaning}
 use Rattle.frame_status.specs.Statuses.{statusIn}
 use Rattle.frame_status.proofs.Parts.{is-open, is-closed, opened-part}
 use Rattle.frame_queries.specs.Accepted.{answerOf}
@@ -99,7 +78,7 @@ pub record ToOpen (p : List ℕ) (c : Command) : Type 0 where
 pub marks-few : (p : List ℕ) (name : ℕ) → Sound p → name < names → OpenName p name → length (marksT (treeOf p name)) ≤ mostMarks
 unfolding promisedShares
 marks-few p name sound low o =
-    omega (arith, sound .allowed, sound .promised, o .length, o .room, sumBelow-one names (λ x. recordOf p x .q) name low)
+    omega (arith, sound .allowed, sound .promised, o .length, o .entry .room, sumBelow-one names (λ x. recordOf p x .q) name low)
 
 module _ (p : List ℕ) (c : Command) (sound : Sound p) (status : statusIn p c ≡ 0) where
   -- the answer is made of the effect, and so is the part

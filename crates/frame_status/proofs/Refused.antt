@@ -10,7 +10,6 @@ use lib.Dec.{eqb, leb, ltb}
 use lib.ListN.{length}
 use Rattle.geometry.specs.Limits.{names, leastAlphabet, mostAlphabet, marksPerShare}
 use Rattle.geometry.specs.declared.Record.{Record}
-use Rattle.pool.proofs.Meanings.{unpromised-meaning}
 use Rattle.pool.specs.Meaning.{meaningOf, meaning}
 use Rattle.pool.specs.Names.{recordOf, treeOf}
 use Rattle.pool.specs.Shares.{unpromisedShares}
@@ -19,6 +18,7 @@ use Rattle.protocol.specs.State.{Part, closed, opened, isOpen, partOf, unpromis
 use Rattle.protocol.specs.declared.Command.{Command}
 use Rattle.sequence.specs.Definition1.{count}
 use Rattle.shape.specs.Trees.{Tree, marksT}
+use Rattle.pool.proofs.Meaning.{unpromised-meaning}
 use Rattle.frame_status.specs.Statuses.{statusIn, WellFormed, Opening, Naming, Asking}
 use Rattle.frame_status.proofs.Codes.{listed-within}
 use Rattle.frame_status.proofs.Forms.{laterStatus, later-tests, name-below}
@@ -217,7 +217,7 @@ module _ (p : List ℕ) (c : Command) (k : Asking p c) (found : Record) (is : fo
     module _ (inside : c .symbol < found .alphabet) where
       -- its symbol can be counted
       pub select-counts : c .symbol < mostAlphabet
-      select-counts = omega (arith, k .opened .alphabetMost, ap (λ (r : Record). r .alphabet) is)
+      select-counts = omega (arith, k .opened .entry .alphabetMost, ap (λ (r : Record). r .alphabet) is)
 
       pub select-zero : c .number ≡ 0 → 10 ≡ statusIn p c
       select-zero zero =

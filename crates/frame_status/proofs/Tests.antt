@@ -10,18 +10,8 @@ use lib.ListN.{length}
 use Rattle.geometry.specs.Limits.{leastAlphabet, mostAlphabet, marksPerShare}
 use Rattle.machine.specs.Machine.{trees}
 use Rattle.protocol.proofs.Rows.{withCode}
-use Rattle.protocol.specs.Commands.{
-  openCode,
-  closeCode,
-  insertCode,
-  deleteCode,
-  accessCode,
-  rankCode,
-  selectCode,
-  lengthCode,
-  unpromisedCode,
-  rows,
-}
+use Rattle.protocol.specs.Commands.{openCode, closeCode, insertCode, deleteCode, accessCode, rankCode, selectCode, lengthCode, unpromisedCode}
+use Rattle.protocol.specs.Commands.{rows}
 use Rattle.protocol.specs.Refusals.{refusals, listed}
 use Rattle.protocol.specs.State.{Part, closed, opened}
 use Rattle.protocol.specs.declared.Command.{Command}

@@ -21,7 +21,7 @@ module _ {A : Type 0} where
   length-from f k zero = refl
   length-from f k (suc n) = ap suc (length-from f (suc k) n)
 
-  pub getD-from : (f : ℕ → A) (k n i : ℕ) (d : A) → i < n → getD (from f k n) i d ≡ f (k + i)
+  getD-from : (f : ℕ → A) (k n i : ℕ) (d : A) → i < n → getD (from f k n) i d ≡ f (k + i)
   unfolding from
   getD-from f k zero i d h = absurd (omega arith)
   getD-from f k (suc n) zero d h = ap f (sym (add-zero k))
@@ -44,7 +44,7 @@ module _ {A : Type 0} where
   from-snoc f k n = let e : suc n ≡ n + 1 = omega arith in ap (from f k) e ∙ from-append f k n 1
 
   -- around number i
-  pub from-around : (f : ℕ → A) (n i : ℕ) → i < n → from f 0 n ≡ from f 0 i ++ f i ∷ from f (suc i) (n - suc i)
+  from-around : (f : ℕ → A) (n i : ℕ) → i < n → from f 0 n ≡ from f 0 i ++ f i ∷ from f (suc i) (n - suc i)
   unfolding from
   from-around f n i h =
       let e : n ≡ i + suc (n - suc i) = omega arith in

@@ -5,3 +5,4 @@ pub mod Measures
 pub mod Sums
 pub mod Froms
 pub mod Cuts
+pub mod Chunks

@@ -3,7 +3,7 @@ use mathlib.Core.Path.{_≡_, refl, sym, ap, ap₂, _∙_}
 use mathlib.Core.List.{List, [], _∷_, map}
 use mathlib.Core.Logic.{⊎-elim}
 use Prim.Native.Nat.{ℕ, zero, suc, _+_, _-_, _*_, _≤_, _<_}
-use native.Mathlib.Nat.{zero-add, add-assoc, eq-or-lt-of-le, le-of-suc-le-suc}
+use native.Mathlib.Nat.{zero-add, add-assoc, eq-zero-or-pos, eq-or-lt-of-le, le-of-suc-le-suc}
 use native.Mathlib.Numerals.{add-one}
 use native.Mathlib.Omega.{arith}
 use lib.ListN.{length}
@@ -80,6 +80,14 @@ sumBelow-two (suc n) f i j l m other =
     ⊎-elim (λ (e : i ≡ n). omega (arith, ap f e, sumBelow-one n f j (omega arith)))
     (λ (k : i < n). ⊎-elim (λ (e : j ≡ n). omega (arith, ap f e, sumBelow-one n f i k)) (λ (o : j < n). omega (arith, sumBelow-two n f i j k o other)) (eq-or-lt-of-le (le-of-suc-le-suc m)))
     (eq-or-lt-of-le (le-of-suc-le-suc l))
+
+-- where a sum isn't 0, one of its numbers isn't
+pub sumBelow-some : {A : Type 0} (n : ℕ) (f : ℕ → ℕ) → 1 ≤ sumBelow n f → ((i : ℕ) → i < n → 1 ≤ f i → A) → A
+unfolding sumBelow
+sumBelow-some zero f some found = absurd (omega arith)
+sumBelow-some (suc n) f some found =
+    ⊎-elim (λ (none : f n ≡ 0). sumBelow-some n f (omega arith) (λ i low here. found i (omega arith) here))
+    (λ (here : 0 < f n). found n (omega arith) here) (eq-zero-or-pos (f n))
 
 -- where one number alone changes what it adds
 pub sumBelow-change : (n : ℕ) (f g : ℕ → ℕ) (x : ℕ) → x < n → ((i : ℕ) → i < n → (i ≡ x → ⊥) → f i ≡ g i) → sumBelow n f + g x ≡ sumBelow n g + f x

@@ -16,9 +16,9 @@ use Rattle.pool.specs.Blocks.{entries, link, children}
 use Rattle.pool.specs.Bytes.{shares}
 use Rattle.pool.specs.Sound.{SoundBlock, SoundBelow}
 use Rattle.pool.specs.Trees.{shapeAt, blocksAt}
-use Rattle.pool.proofs.Children.{length-shape}
-use Rattle.pool.proofs.Leaves.{length-leaf}
 use Rattle.pool.proofs.Ways.{Readable}
+use Rattle.pool.proofs.Blocks.{length-leaf}
+use Rattle.pool.proofs.Trees.{length-shape}
 
 module _ (p : List ℕ) where
   module _ (alphabet : ℕ) where

@@ -11,8 +11,8 @@ use Rattle.shape.specs.Nested.{flat, marksIn}
 use Rattle.pool.specs.Blocks.{link, marksBelow, countBelow}
 use Rattle.pool.specs.Sound.{SoundBlock, SoundBelow, Tells}
 use Rattle.pool.specs.Trees.{shapeAt, ownMarks, ownCount}
-use Rattle.pool.proofs.Children.{told-all}
-use Rattle.pool.proofs.Leaves.{length-leaf}
+use Rattle.pool.proofs.Blocks.{length-leaf}
+use Rattle.pool.proofs.Trees.{told-all}
 
 module _ (p : List ℕ) (alphabet : ℕ) where
   pub own-marks : (fewest h b : ℕ) → SoundBlock p fewest h b → SoundBelow p alphabet h b → ownMarks p h b ≡ marksIn h (shapeAt p h b)

@@ -12,12 +12,11 @@ use Rattle.pool.specs.Blocks.{formOf, entries}
 use Rattle.pool.specs.Bytes.{shares, blockAt}
 use Rattle.pool.specs.Changes.{Outside, Only}
 use Rattle.pool.specs.Words.{WordAt, PutWord, Moved}
-use Rattle.pool.proofs.Changed.{only-block, only-then, word-behind}
-use Rattle.pool.proofs.Cuts.{cut-before, cut-behind, cut-moved}
+use Rattle.pool.proofs.Changes.{only-block, only-then, word-behind, cut-before, cut-behind}
+use Rattle.pool.proofs.Moves.{cut-moved}
 use Rattle.pool_blocks.specs.Contents.{contents, Room}
 use Rattle.pool_blocks.specs.Moves.{Opened, Closed}
-use Rattle.pool_blocks.proofs.Products.{Measured, measured}
-use Rattle.pool_blocks.proofs.Stretches.{contents-is}
+use Rattle.pool_blocks.proofs.Contents.{Measured, measured, contents-is}
 
 -- a move within a block's entries, and then another count
 module _ (b from to bytes put : ℕ) (p q r : List ℕ) (low : blockAt b ≤ to) (high : to + bytes ≤ blockAt b + formAt)

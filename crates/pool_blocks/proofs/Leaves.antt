@@ -13,7 +13,7 @@ use Rattle.pool.specs.Blocks.{entries, leafMarks}
 use Rattle.pool.specs.Bytes.{byte, blockAt}
 use Rattle.pool.specs.Changes.{Outside}
 use Rattle.pool.specs.Words.{WordAt, PutByte}
-use Rattle.pool.proofs.Changed.{only-block, only-then, word-behind}
+use Rattle.pool.proofs.Changes.{only-block, only-then, word-behind}
 use Rattle.pool_blocks.specs.Contents.{contents, LeafAt}
 use Rattle.pool_blocks.specs.Moves.{Opened, Closed, CutOff, Joined, SharedOut}
 use Rattle.pool_blocks.specs.Leaves.{MarkInserted, MarkDeleted, LeafCut, LeavesJoined, LeavesShared}

@@ -1,9 +1,7 @@
-pub mod Products
-pub mod Stretches
+pub mod Contents
 pub mod Gaps
 pub mod Parts
 pub mod Shares
 pub mod Leaves
-pub mod Chunks
 pub mod Branches
 pub mod Scans

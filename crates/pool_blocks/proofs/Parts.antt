@@ -14,13 +14,12 @@ use Rattle.pool.specs.Blocks.{entries}
 use Rattle.pool.specs.Bytes.{shares, blockAt}
 use Rattle.pool.specs.Changes.{Only}
 use Rattle.pool.specs.Words.{WordAt, PutByte, PutWord, Moved}
-use Rattle.pool.proofs.Changed.{outside-then, outside-wider, only-block, only-then, only-wider, word-other}
-use Rattle.pool.proofs.Cuts.{cut-before, cut-moved}
+use Rattle.pool.proofs.Changes.{outside-then, outside-wider, only-block, only-then, only-wider, word-other, cut-before}
+use Rattle.pool.proofs.Moves.{cut-moved}
 use Rattle.pool_blocks.specs.Contents.{contents, Room, Apart}
 use Rattle.pool_blocks.specs.Moves.{PutTrailer, Emptied, CutOff, Joined}
-use Rattle.pool_blocks.proofs.Products.{Measured, measured}
-use Rattle.pool_blocks.proofs.Stretches.{contents-is, start-other}
 use Rattle.pool_blocks.proofs.Gaps.{moved-only, moved-form}
+use Rattle.pool_blocks.proofs.Contents.{Measured, measured, contents-is, start-other}
 
 -- form and count make a trailer
 pub trailer-put : (b many : ℕ) (p q r : List ℕ) → PutByte (blockAt b + formAt) formMarks p q → PutWord (blockAt b + countAt) many q r

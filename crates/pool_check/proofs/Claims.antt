@@ -17,12 +17,12 @@ use Rattle.lists.proofs.Items.{all-map}
 use Rattle.lists.proofs.Sums.{sumBelow-same, sumBelow-tight, sumBelow-short, sumBelow-grows}
 use Rattle.lists.specs.Items.{AllBelow}
 use Rattle.lists.specs.Sums.{sumBelow}
+use Rattle.sequence.proofs.Counts.{all-standing}
 use Rattle.pool_entries.specs.Summaries.{Is}
 use Rattle.geometry.specs.Layout.{mostLeaf}
 use Rattle.geometry.specs.Limits.{blockSize, mostAlphabet}
 use Rattle.pool.specs.Blocks.{entries, leafMarks, marksBelow, countBelow}
 use Rattle.pool.specs.Bytes.{shares}
-use Rattle.pool.proofs.Distincts.{all-standing}
 use Rattle.sequence.proofs.Alphabets.{counts-add-up, counts-at-most, allBelow-of-counts}
 use Rattle.sequence.specs.Definition1.{count}
 use Rattle.pool_check.specs.Parts.{Matches, Padded, Claim}

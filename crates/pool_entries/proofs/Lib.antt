@@ -1,8 +1,7 @@
 pub mod Levels
 pub mod Filling
 pub mod Summaries
-pub mod Written
-pub mod Neighbours
+pub mod Entries
 pub mod Telling
 pub mod Seats
 pub mod SeatedChildren

@@ -11,6 +11,7 @@ use lib.ListN.{length, take, drop, length-map, take-append-drop}
 use lib.Seq.{length-take-le}
 use Rattle.lists.proofs.Joins.{joined-append}
 use Rattle.lists.specs.Joins.{joined}
+use Rattle.pool.proofs.Formatted.{length-formatted, formatted-sound, formatted-meaning}
 use Rattle.program_batches.specs.Answers.{lineOfAnswer}
 use Rattle.program_batches.specs.Batch.{draftOf, bytesOf, keptIn, completed, BatchRead, Completes}
 use Rattle.program_batches.specs.declared.Batch.{Batch}
@@ -32,7 +33,6 @@ use Rattle.machine.specs.Machine.{trees}
 use Rattle.pool.specs.Formatted.{formatted}
 use Rattle.pool.specs.Meaning.{meaning}
 use Rattle.pool.specs.Sound.{LengthAllowed, Sound}
-use Rattle.pool.proofs.FormattedSound.{length-formatted, formatted-sound, formatted-meaning}
 use Rattle.protocol.specs.Frames.{bytesOfAnswer}
 use Rattle.protocol.specs.Respond.{answersTo, stateAfter}
 use Rattle.protocol.specs.State as State

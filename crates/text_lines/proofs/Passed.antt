@@ -6,6 +6,7 @@ use Prim.Native.Nat.{ℕ, _+_, _-_, _≤_, _<_}
 use native.Mathlib.Omega.{arith}
 use lib.ListN.{length, getD, take}
 use Rattle.lists.proofs.Cuts.{take-next}
+use Rattle.lists.proofs.Items.{all-append}
 use Rattle.text_lines.specs.declared.Gathered.{Gathered}
 use Rattle.text_lines.specs.Lines.{lineFeed, Plain, Stands, Accepts, Gathers}
 
@@ -15,11 +16,6 @@ pub record Passed (returns : Bool) (bytes : List ℕ) (before : Gathered) (keep 
   pub plain : Plain (take i bytes)
   pub same : length keep' ≡ length keep
   pub stands : (gathered : List ℕ) → Stands returns gathered before keep → Stands returns (gathered ++ take i bytes) line keep'
-
--- a piece without a line feed and a byte that is none
-plain-snoc : (xs : List ℕ) (b : ℕ) → Plain xs → (b ≡ lineFeed → ⊥) → Plain (xs ++ (b ∷ []))
-plain-snoc [] b p h = (h, tt)
-plain-snoc (x ∷ xs) b p h = (p .0, plain-snoc xs b (p .1) h)
 
 module _ (r : Bool) (bytes : List ℕ) (before : Gathered) (keep : List ℕ) where
   -- no byte has been passed
@@ -39,7 +35,7 @@ module _ (r : Bool) (bytes : List ℕ) (before : Gathered) (keep : List ℕ) whe
     passed-more line' keep'' inside other a =
         record {
           within = omega arith;
-          plain = rw (take-next bytes i inside) (plain-snoc (take i bytes) (getD bytes i 0) (passed .plain) other);
+          plain = rw (take-next bytes i inside) (all-append _ (take i bytes) (getD bytes i 0 ∷ []) (passed .plain) (other, tt));
           same = a .same ∙ passed .same;
           stands = λ g h.
               rw (take-next bytes i inside, ← append-assoc g (take i bytes) (getD bytes i 0 ∷ []))

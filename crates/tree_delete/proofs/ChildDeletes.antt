@@ -24,14 +24,14 @@ use Rattle.shape.specs.Level.{Takes, mend}
 use Rattle.shape.specs.Nested.{Node, flat, marksIn}
 use Rattle.shape.specs.Sizes.{oneToAByte, least, most}
 use Rattle.shape.specs.Trees.{deleteNode}
-use Rattle.pool.proofs.Changed.{only-then, only-wider}
-use Rattle.pool.proofs.Children.{shape-around, shape-before, shape-after, told-all, count-blocks}
-use Rattle.pool.proofs.Frames.{same-entries, same-link, same-marksBelow, same-countBelow, same-block}
 use Rattle.pool.proofs.SoundTrees.{sound-marks}
 use Rattle.pool.specs.Blocks.{entries, link, marksBelow}
 use Rattle.pool.specs.Changes.{SameBlock, Only}
 use Rattle.pool.specs.Sound.{SoundBlock, Tells}
 use Rattle.pool.specs.Trees.{shapeAt, blocksAt}
+use Rattle.pool.proofs.Changes.{only-then, only-wider}
+use Rattle.pool.proofs.Trees.{shape-around, shape-before, shape-after, told-all, count-blocks}
+use Rattle.pool.proofs.TreesKept.{same-entries, same-link, same-marksBelow, same-countBelow, same-block}
 use Rattle.pool_entries.proofs.SeatedChildren.{seated-takes, seated-total, seated-range}
 use Rattle.pool_entries.proofs.Telling.{entry-tells}
 use Rattle.pool_entries.specs.Seats.{Seated}

@@ -8,9 +8,9 @@ use Rattle.geometry.specs.Layout.{leastBranch, mostBranch}
 use Rattle.geometry.specs.Limits.{mostAlphabet}
 use Rattle.sequence.proofs.Edits.{allBelow-delete}
 use Rattle.shape.specs.Trees.{deleteNode}
-use Rattle.pool.proofs.Changed.{only-wider}
 use Rattle.pool.specs.Blocks.{entries, leafMarks, link, marksBelow}
 use Rattle.pool.specs.Bytes.{shares}
+use Rattle.pool.proofs.Changes.{only-wider}
 use Rattle.pool_blocks.specs.Contents.{LeafAt}
 use Rattle.pool_blocks.specs.Leaves.{MarkDeleted}
 use Rattle.pool_entries.proofs.Levels.{at-leaf, at-branch}

@@ -17,11 +17,11 @@ use Rattle.sequence.specs.Definition1.{isMark, count}
 use Rattle.shape.proofs.Chop.{chop-fits, chop-halves}
 use Rattle.shape.specs.Level.{middle, halves, chop}
 use Rattle.shape.specs.Sizes.{oneToAByte, most}
-use Rattle.pool.proofs.Changed.{only-wider}
-use Rattle.pool.proofs.Leaves.{length-leaf}
 use Rattle.pool.specs.Blocks.{entries, leafMarks}
 use Rattle.pool.specs.Changes.{Only}
 use Rattle.pool.specs.Trees.{shapeAt, blocksAt}
+use Rattle.pool.proofs.Blocks.{length-leaf}
+use Rattle.pool.proofs.Changes.{only-wider}
 use Rattle.pool_blocks.proofs.Branches.{entries-length}
 use Rattle.pool_blocks.specs.Branches.{BranchesJoined, BranchesShared}
 use Rattle.pool_blocks.specs.Contents.{entryList, LeafAt, BranchAt}

@@ -19,10 +19,10 @@ use Rattle.shape.proofs.Chop.{chop-one-or-two}
 use Rattle.shape.specs.Level.{chop}
 use Rattle.shape.specs.Nested.{Node}
 use Rattle.shape.specs.Sizes.{oneToAByte, most}
-use Rattle.pool.proofs.Changed.{only-wider, only-either}
 use Rattle.pool.specs.Blocks.{formOf, entries, link}
 use Rattle.pool.specs.Changes.{Only}
 use Rattle.pool.specs.Trees.{shapeAt, blocksAt}
+use Rattle.pool.proofs.Changes.{only-wider, only-either}
 use Rattle.pool_blocks.proofs.Branches.{entry-link, entry-at, entries-length}
 use Rattle.pool_blocks.specs.Contents.{linkIn, entryList}
 use Rattle.pool_holders.specs.Maps.{isFree, Freed}

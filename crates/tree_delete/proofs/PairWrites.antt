@@ -16,17 +16,17 @@ use Rattle.shape.proofs.Chop.{total-chop}
 use Rattle.shape.proofs.Nested.{flat-append}
 use Rattle.shape.specs.Nested.{Node, flat, marksIn}
 use Rattle.shape.specs.Sizes.{oneToAByte, most}
-use Rattle.pool.proofs.Changed.{only-then}
-use Rattle.pool.proofs.Frames.{same-byte, same-entries}
 use Rattle.pool.specs.Blocks.{formOf, entries, link}
 use Rattle.pool.specs.Bytes.{shares}
 use Rattle.pool.specs.Changes.{SameBlock}
 use Rattle.pool.specs.Trees.{shapeAt, blocksAt}
 use Rattle.pool.specs.Words.{wordLimit}
+use Rattle.pool.proofs.Changes.{only-then}
+use Rattle.pool.proofs.TreesKept.{same-byte, same-entries}
+use Rattle.pool_entries.proofs.Entries.{entries-kept, form-kept, only-entry}
 use Rattle.pool_blocks.proofs.Branches.{entry-written, entries-length}
 use Rattle.pool_blocks.specs.Branches.{EntryRemoved}
 use Rattle.pool_blocks.specs.Contents.{entryBytes, entryList, BranchAt}
-use Rattle.pool_entries.proofs.Neighbours.{entries-kept, form-kept, only-entry}
 use Rattle.pool_entries.specs.Entries.{PutEntry}
 use Rattle.pool_entries.specs.Summaries.{SummaryOf, SmallSums}
 use Rattle.pool_entries.specs.declared.Summary.{Summary}

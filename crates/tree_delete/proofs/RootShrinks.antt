@@ -13,9 +13,9 @@ use Rattle.shape.proofs.Instances.{oneToAByte-proper}
 use Rattle.shape.specs.Nested.{Node}
 use Rattle.shape.specs.Sizes.{oneToAByte}
 use Rattle.shape.specs.Trees.{shrunk, deleteT}
-use Rattle.pool.proofs.Children.{length-shape, count-blocks}
 use Rattle.pool.specs.Blocks.{entries, link}
 use Rattle.pool.specs.Trees.{shapeAt, blocksAt}
+use Rattle.pool.proofs.Trees.{length-shape, count-blocks}
 use Rattle.pool_entries.proofs.Levels.{at-leaf, at-branch}
 use Rattle.pool_entries.specs.Summaries.{Is}
 use Rattle.pool_holders.specs.Maps.{isFree, GivenBack}

@@ -19,15 +19,15 @@ use Rattle.shape.proofs.Instances.{oneToAByte-proper}
 use Rattle.shape.specs.Level.{mend}
 use Rattle.shape.specs.Nested.{marksIn}
 use Rattle.shape.specs.Sizes.{oneToAByte, least, most}
-use Rattle.pool.proofs.Changed.{only-then, only-wider}
-use Rattle.pool.proofs.Children.{count-blocks}
 use Rattle.pool.specs.Blocks.{entries, link, marksBelow, countBelow, children}
 use Rattle.pool.specs.Bytes.{shares}
 use Rattle.pool.specs.Changes.{Only}
 use Rattle.pool.specs.Trees.{shapeAt, blocksAt}
-use Rattle.pool_entries.proofs.Neighbours.{link-apart, entries-kept, form-kept, only-entry}
+use Rattle.pool.proofs.Changes.{only-then, only-wider}
+use Rattle.pool.proofs.Trees.{count-blocks}
 use Rattle.pool_entries.proofs.Telling.{entry-tells, apart-tells}
 use Rattle.pool_entries.specs.Entries.{TakeMark}
+use Rattle.pool_entries.proofs.Entries.{link-apart, entries-kept, form-kept, only-entry}
 use Rattle.pool_holders.specs.Maps.{isFree}
 use Rattle.pool_holders.proofs.Maps.{fits-after}
 use Rattle.tree_delete.specs.Mends.{ShortReady, SettleReady, Mended}

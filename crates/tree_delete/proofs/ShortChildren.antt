@@ -18,12 +18,12 @@ use Rattle.shape.proofs.Mend.{mend-none, mend-first, mend-left}
 use Rattle.shape.specs.Level.{mend}
 use Rattle.shape.specs.Nested.{Node, marksIn}
 use Rattle.shape.specs.Sizes.{oneToAByte, least, most}
-use Rattle.pool.proofs.Changed.{only-none}
-use Rattle.pool.proofs.Children.{length-shape, child-shape, shape-before, told-all}
-use Rattle.pool.proofs.Leaves.{length-leaf}
 use Rattle.pool.specs.Blocks.{entries, link}
 use Rattle.pool.specs.Sound.{SoundBlock, Tells}
 use Rattle.pool.specs.Trees.{shapeAt}
+use Rattle.pool.proofs.Blocks.{length-leaf}
+use Rattle.pool.proofs.Changes.{only-none}
+use Rattle.pool.proofs.Trees.{length-shape, child-shape, shape-before, told-all}
 use Rattle.pool_blocks.proofs.Branches.{entry-link, entry-below, entry-count}
 use Rattle.pool_blocks.specs.Contents.{linkIn, entryBytes, entryList}
 use Rattle.pool_entries.specs.Summaries.{Is}

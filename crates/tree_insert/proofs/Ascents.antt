@@ -23,10 +23,10 @@ use Rattle.shape.specs.Level.{chop}
 use Rattle.shape.specs.Nested.{Node}
 use Rattle.shape.specs.Sizes.{oneToAByte}
 use Rattle.shape.specs.Trees.{insertNode}
-use Rattle.pool.proofs.Changed.{only-then, only-wider}
 use Rattle.pool.proofs.SoundTrees.{sound-filled}
 use Rattle.pool.specs.Blocks.{entries, link, marksBelow}
 use Rattle.pool.specs.Trees.{shapeAt, blocksAt, pathAt}
+use Rattle.pool.proofs.Changes.{only-then, only-wider}
 use Rattle.pool_blocks.proofs.Branches.{entry-link, entries-length, entry-at}
 use Rattle.pool_blocks.specs.Contents.{linkIn, entryList}
 use Rattle.pool_holders.specs.Maps.{isFree}

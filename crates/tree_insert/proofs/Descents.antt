@@ -19,11 +19,11 @@ use Rattle.shape.specs.Blocks.{divides, splits}
 use Rattle.shape.specs.Level.{Takes}
 use Rattle.shape.specs.Nested.{Node, marksIn}
 use Rattle.shape.specs.Sizes.{oneToAByte, least}
-use Rattle.pool.proofs.Children.{shape-around, told-all, count-blocks}
 use Rattle.pool.specs.Blocks.{entries, link, marksBelow}
 use Rattle.pool.specs.Bytes.{shares}
 use Rattle.pool.specs.Sound.{SoundBlock}
 use Rattle.pool.specs.Trees.{shapeAt, blocksAt, pathAt}
+use Rattle.pool.proofs.Trees.{shape-around, told-all, count-blocks}
 use Rattle.tree_splits.specs.Inserts.{InsertReady}
 use Rattle.pool_entries.proofs.SeatedChildren.{seated-takes, seated-total, seated-path}
 use Rattle.pool_entries.specs.Seats.{Seated}

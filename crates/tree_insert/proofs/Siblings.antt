@@ -13,7 +13,7 @@ use Rattle.lists.proofs.Measures.{Additive}
 use Rattle.lists.proofs.Sums.{total-joined, total-map}
 use Rattle.lists.specs.Items.{All}
 use Rattle.lists.specs.Sums.{total}
-use Rattle.sequence.proofs.Counts.{isMark-same, count-additive}
+use Rattle.sequence.proofs.Counts.{isMark-same, count-additive, all-standing}
 use Rattle.sequence.proofs.Edits.{length-insert, count-insert}
 use Rattle.sequence.specs.Definition1.{count, insert}
 use Rattle.shape.proofs.Instances.{oneToAByte-proper}
@@ -25,15 +25,14 @@ use Rattle.shape.specs.Fill.{rootLeast}
 use Rattle.shape.specs.Nested.{flat}
 use Rattle.shape.specs.Sizes.{oneToAByte, least}
 use Rattle.shape.specs.Trees.{insertNode}
-use Rattle.pool.proofs.Children.{length-shape}
-use Rattle.pool.proofs.Distincts.{all-standing}
-use Rattle.pool.proofs.Frames.{same-byte, same-entries, same-link, same-marksBelow, same-countBelow}
 use Rattle.pool.proofs.SoundTrees.{sound-filled, sound-readable}
 use Rattle.pool.proofs.Ways.{path-among}
 use Rattle.pool.specs.Blocks.{entries, link, marksBelow}
 use Rattle.pool.specs.Changes.{SameBlock}
 use Rattle.pool.specs.Sound.{SoundBlock, SoundBelow, Tells}
 use Rattle.pool.specs.Trees.{shapeAt, blocksAt, pathAt}
+use Rattle.pool.proofs.Trees.{length-shape}
+use Rattle.pool.proofs.TreesKept.{same-byte, same-entries, same-link, same-marksBelow, same-countBelow}
 use Rattle.pool_holders.specs.Maps.{isFree, freeIn}
 use Rattle.pool_holders.proofs.Maps.{fits-after}
 use Rattle.pool_holders.proofs.Takes.{entered-falls}

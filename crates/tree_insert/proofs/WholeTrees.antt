@@ -16,10 +16,10 @@ use Rattle.shape.specs.Blocks.{divides}
 use Rattle.shape.specs.Nested.{Node, flat}
 use Rattle.shape.specs.Sizes.{oneToAByte, least}
 use Rattle.shape.specs.Trees.{grown, insertT}
-use Rattle.pool.proofs.Changed.{only-then, only-wider}
 use Rattle.pool.specs.Blocks.{entries}
 use Rattle.pool.specs.Sound.{SoundBlock, SoundBelow}
 use Rattle.pool.specs.Trees.{shapeAt, blocksAt, pathAt}
+use Rattle.pool.proofs.Changes.{only-then, only-wider}
 use Rattle.pool_holders.specs.Maps.{isFree, Agrees}
 use Rattle.pool_holders.proofs.Maps.{fits-after}
 use Rattle.pool_holders.proofs.Takes.{entered-then, entered-falls}

@@ -6,6 +6,7 @@ use native.Mathlib.Omega.{arith}
 use lib.ListN.{length, length-append}
 use Rattle.lists.proofs.Sums.{sumBelow-one}
 use Rattle.lists.specs.Sums.{sumBelow}
+use Rattle.pool.proofs.Trees.{told-all}
 use Rattle.pool_blocks.specs.Contents.{LeafAt}
 use Rattle.pool_entries.proofs.Levels.{at-leaf, at-branch}
 use Rattle.pool_entries.proofs.SeatedChildren.{seated-range, seated-path}
@@ -15,7 +16,6 @@ use Rattle.geometry.specs.Limits.{mostAlphabet}
 use Rattle.pool.specs.Blocks.{entries, leafMarks, link}
 use Rattle.pool.specs.Sound.{SoundBlock}
 use Rattle.pool.specs.Trees.{shapeAt}
-use Rattle.pool.proofs.Children.{told-all}
 use Rattle.sequence.specs.Definition1.{count, access, rank, select}
 use Rattle.sequence.proofs.Counts.{count-additive}
 use Rattle.sequence.proofs.Ranks.{rank-le-place}

@@ -7,13 +7,13 @@ use native.Mathlib.Nat.{add-assoc}
 use native.Mathlib.Omega.{arith}
 use lib.ListN.{length, take, drop, length-append}
 use Rattle.lists.specs.Sums.{sumBelow}
+use Rattle.pool.proofs.Trees.{shape-around, told-before}
 use Rattle.pool_entries.proofs.SeatedChildren.{seated-takes, seated-total}
 use Rattle.pool_entries.specs.Summaries.{wordsAt}
 use Rattle.geometry.specs.Layout.{entryMarksAt, entryCountsAt, wordSize}
 use Rattle.geometry.specs.Limits.{mostAlphabet}
 use Rattle.pool.specs.Blocks.{entries, link}
 use Rattle.pool.specs.Trees.{shapeAt}
-use Rattle.pool.proofs.Children.{shape-around, told-before}
 use Rattle.sequence.specs.Definition1.{count, access, rank, select}
 use Rattle.sequence.proofs.Counts.{count-additive}
 use Rattle.shape.specs.Nested.{Node, flat, marksIn}

@@ -15,8 +15,6 @@ use Rattle.shape.proofs.Filled.{root-least}
 use Rattle.shape.proofs.Instances.{oneToAByte-proper}
 use Rattle.shape.specs.Nested.{Node, flat, marksIn}
 use Rattle.shape.specs.Sizes.{oneToAByte, least}
-use Rattle.pool.proofs.Children.{blocks-root}
-use Rattle.pool.proofs.Frames.{shape-kept, blocks-kept, below-kept, same-block}
 use Rattle.pool.proofs.SoundTrees.{sound-readable}
 use Rattle.pool.proofs.Ways.{Readable}
 use Rattle.pool.specs.Blocks.{entries, link}
@@ -24,6 +22,8 @@ use Rattle.pool.specs.Changes.{SameBlock}
 use Rattle.pool.specs.Sound.{SoundBelow}
 use Rattle.pool.specs.Trees.{shapeAt, blocksAt}
 use Rattle.pool.specs.Untouched.{SameBlocks}
+use Rattle.pool.proofs.Trees.{blocks-root}
+use Rattle.pool.proofs.TreesKept.{shape-kept, blocks-kept, below-kept, same-block}
 use Rattle.pool_blocks.proofs.Branches.{entry-link, entry-below, entry-count, children-are}
 use Rattle.pool_blocks.specs.Contents.{linkIn, entryBytes, entryList}
 use Rattle.tree_splits.specs.Entries.{TrueEntry, SoundChild}

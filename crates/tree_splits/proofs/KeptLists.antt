@@ -9,7 +9,7 @@ use Rattle.lists.proofs.Mapped.{map-same}
 use Rattle.lists.specs.Items.{All}
 use Rattle.lists.specs.Joins.{joined}
 use Rattle.sequence.specs.Definition1.{count}
-use Rattle.pool.proofs.Distincts.{standing-all}
+use Rattle.sequence.proofs.Counts.{standing-all}
 use Rattle.pool.specs.Changes.{SameBlock}
 use Rattle.pool.specs.Untouched.{SameBlocks}
 use Rattle.tree_splits.proofs.GoodEntries.{GoodEntry, shapeIn, blocksIn, shape-same, blocks-same, good-kept}

@@ -21,11 +21,11 @@ use Rattle.shape.specs.Blocks.{divides, splits}
 use Rattle.shape.specs.Paths.{path}
 use Rattle.shape.specs.Sizes.{oneToAByte, most}
 use Rattle.shape.specs.Trees.{insertNode}
-use Rattle.pool.proofs.Changed.{only-wider}
-use Rattle.pool.proofs.Leaves.{length-leaf}
 use Rattle.pool.specs.Blocks.{entries, leafMarks}
 use Rattle.pool.specs.Bytes.{shares}
 use Rattle.pool.specs.Trees.{pathAt}
+use Rattle.pool.proofs.Blocks.{length-leaf}
+use Rattle.pool.proofs.Changes.{only-wider}
 use Rattle.pool_blocks.specs.Contents.{LeafAt}
 use Rattle.pool_blocks.specs.Leaves.{MarkInserted}
 use Rattle.pool_holders.specs.Maps.{freeIn, BlockTaken}

@@ -11,10 +11,10 @@ use Rattle.lists.specs.Joins.{joined}
 use Rattle.sequence.proofs.Counts.{isMark-same}
 use Rattle.sequence.specs.Definition1.{count}
 use Rattle.shape.specs.Sizes.{oneToAByte, most}
-use Rattle.pool.proofs.Changed.{only-then, only-wider}
 use Rattle.pool.specs.Blocks.{entries}
 use Rattle.pool.specs.Bytes.{shares}
 use Rattle.pool.specs.Trees.{shapeAt, blocksAt}
+use Rattle.pool.proofs.Changes.{only-then, only-wider}
 use Rattle.pool_blocks.proofs.Branches.{entries-length}
 use Rattle.pool_blocks.specs.Contents.{linkIn, entryBytes, entryList}
 use Rattle.pool_blocks.specs.Moves.{Emptied}

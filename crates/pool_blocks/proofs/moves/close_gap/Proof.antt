@@ -2,8 +2,8 @@
 use Prim.Native.Nat.{_+_}
 use native.Mathlib.Omega.{arith}
 use borrow.Author.Needs.{needs}
-use Rattle.pool_blocks.proofs.Products.{Measured, measured}
 use Rattle.pool_blocks.proofs.Gaps.{gap-closed}
+use Rattle.pool_blocks.proofs.Contents.{Measured, measured}
 use Rattle.pool_blocks.proofs.moves.close_gap.Statement.{statement}
 use Rattle.pool_blocks.proofs.moves.close_gap.Tie as tie
 

@@ -1,8 +1,8 @@
 -- `pool_blocks::moves::cut_off` meets its contract: one move, the count that is left, and the new block's trailer.
 use native.Mathlib.Omega.{arith}
 use borrow.Author.Needs.{needs}
-use Rattle.pool_blocks.proofs.Products.{Measured, measured}
 use Rattle.pool_blocks.proofs.Parts.{part-cut}
+use Rattle.pool_blocks.proofs.Contents.{Measured, measured}
 use Rattle.pool_blocks.proofs.moves.cut_off.Statement.{statement}
 use Rattle.pool_blocks.proofs.moves.cut_off.Tie as tie
 

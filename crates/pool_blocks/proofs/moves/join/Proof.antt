@@ -2,8 +2,8 @@
 use Prim.Native.Nat.{_+_}
 use native.Mathlib.Omega.{arith}
 use borrow.Author.Needs.{needs}
-use Rattle.pool_blocks.proofs.Products.{Measured, measured}
 use Rattle.pool_blocks.proofs.Parts.{parts-joined}
+use Rattle.pool_blocks.proofs.Contents.{Measured, measured}
 use Rattle.pool_blocks.proofs.moves.join.Statement.{statement}
 use Rattle.pool_blocks.proofs.moves.join.Tie as tie
 

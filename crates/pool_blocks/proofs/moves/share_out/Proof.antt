@@ -1,8 +1,8 @@
 -- `pool_blocks::moves::share_out` meets its contract: whichever block gets more, the entries are cut at half.
 use native.Mathlib.Omega.{arith}
 use borrow.Author.Needs.{needs}
-use Rattle.pool_blocks.proofs.Products.{room-fewer}
 use Rattle.pool_blocks.proofs.Shares.{shared-out}
+use Rattle.pool_blocks.proofs.Contents.{room-fewer}
 use Rattle.pool_blocks.proofs.moves.share_out.Statement.{statement}
 use Rattle.pool_blocks.proofs.moves.share_out.Tie as tie
 

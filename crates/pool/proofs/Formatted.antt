@@ -21,9 +21,9 @@ use Rattle.pool.specs.Meaning.{meaningOf, meaning}
 use Rattle.pool.specs.Names.{recordOf, blocksOf}
 use Rattle.pool.specs.Shares.{promisedShares}
 use Rattle.pool.specs.Sound.{LengthAllowed, ClosedName, Sound}
-use Rattle.pool.proofs.Meanings.{closed-meaning}
-use Rattle.pool.proofs.Written.{closed-record}
 use Rattle.pool.proofs.SoundNames.{closed-blocks}
+use Rattle.pool.proofs.Meaning.{closed-meaning}
+use Rattle.pool.proofs.Written.{closed-record}
 
 module _ (bytes : ℕ) (allowed : LengthAllowed bytes) where
   pub length-formatted : length (formatted bytes) ≡ bytes

@@ -24,9 +24,9 @@ use Rattle.pool.specs.Changes.{SameBlock, Only}
 use Rattle.pool.specs.Sound.{SoundBlock, SoundBelow, Tells}
 use Rattle.pool.specs.Trees.{shapeAt, blocksAt}
 use Rattle.pool.specs.Untouched.{SameBlocks}
-use Rattle.pool.proofs.Children.{blocks-root, blocks-child}
-use Rattle.pool.proofs.Leaves.{front-byte}
 use Rattle.pool.proofs.Ways.{Readable}
+use Rattle.pool.proofs.Blocks.{front-byte}
+use Rattle.pool.proofs.Trees.{blocks-root, blocks-child}
 
 -- blocks that are none of those changed
 pub only-same : (These : ℕ → Type 0) (p p′ : List ℕ) → Only These p p′ → (bs : List ℕ) → All (λ b. These b → ⊥) bs → SameBlocks bs p p′
