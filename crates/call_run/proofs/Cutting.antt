@@ -8,12 +8,12 @@ use native.Mathlib.Omega.{arith}
 use lib.ListN.{length, take, drop, length-append, length-drop}
 use lib.Seq.{take-append-le, drop-append-le, drop-append-add}
 use Rattle.geometry.specs.Limits.{frameSize}
-use Rattle.pool.specs.Bytes.{from}
-use Rattle.pool.proofs.Froms.{length-from, from-append, from-snoc, from-same, map-from}
+use Rattle.lists.proofs.Froms.{length-from, from-append, from-snoc, from-same, map-from}
+use Rattle.lists.specs.Froms.{from}
+use Rattle.lists.specs.Joins.{joined}
 use Rattle.protocol.specs.Frames.{commandOf, bytesOfAnswer}
 use Rattle.protocol.specs.declared.Answer.{Answer}
 use Rattle.protocol.specs.declared.Command.{Command}
-use Rattle.shape.specs.Nested.{joined}
 use Rattle.call_run.specs.Runs.{eights, commandsIn}
 
 -- command k of those that stand in so many bytes

@@ -12,7 +12,7 @@ use Rattle.pool.specs.Bytes.{byte}
 use Rattle.pool.specs.Formatted.{formatted}
 use Rattle.pool.specs.Sound.{LengthAllowed}
 use Rattle.pool.specs.Words.{Cleared, PutByte}
-use Rattle.pool.proofs.FormattedSound.{length-formatted}
+use Rattle.pool.proofs.Formatted.{length-formatted}
 use Rattle.pool_check.specs.Says.{Says}
 use Rattle.pool_check.proofs.Deciding.{denied}
 use Rattle.call_run.specs.Calls.{Formats}

@@ -6,13 +6,13 @@ use native.Mathlib.Numerals.{add-one}
 use native.Mathlib.Omega.{arith}
 use lib.ListN.{length, take, drop, length-append}
 use lib.Seq.{paste, length-paste, take-at, drop-append-add, drop-drop}
+use Rattle.lists.proofs.Joins.{joined-append}
+use Rattle.lists.specs.Joins.{joined}
 use Rattle.frame_execute.specs.Steps.{Ready, Stepped}
 use Rattle.geometry.specs.Limits.{frameSize}
 use Rattle.protocol.specs.Frames.{bytesOfAnswer}
 use Rattle.protocol.specs.declared.Answer.{Answer}
 use Rattle.protocol.specs.declared.Command.{Command}
-use Rattle.shape.specs.Nested.{joined}
-use Rattle.shape.proofs.Folds.{joined-append}
 use Rattle.call_run.specs.Frames.{FramesReady, FramesRun}
 use Rattle.call_run.specs.Runs.{Runs}
 use Rattle.call_run.proofs.Cutting.{commandAt, firstCommands, no-commands, one-command-more, all-commands, answer-bytes}

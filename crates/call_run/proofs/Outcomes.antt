@@ -7,6 +7,7 @@ use Prim.Native.Nat.{ℕ, _+_, _-_, _%_, _≤_, _<_}
 use native.Mathlib.Nat.{eq-zero-or-pos}
 use native.Mathlib.Omega.{arith}
 use lib.ListN.{length, drop}
+use Rattle.lists.specs.Joins.{joined}
 use Rattle.call_tests.specs.Tests.{CommandsAllowed, StatusOfCall}
 use Rattle.call_tests.specs.declared.Outcome.{Outcome}
 use Rattle.geometry.specs.Limits.{blockSize, shortestPool, longestPool}
@@ -15,7 +16,6 @@ use Rattle.pool.specs.Meaning.{meaning}
 use Rattle.pool.specs.Sound.{LengthAllowed, Sound}
 use Rattle.protocol.specs.Frames.{bytesOfAnswer}
 use Rattle.protocol.specs.Respond.{answersTo, stateAfter}
-use Rattle.shape.specs.Nested.{joined}
 use Rattle.call_run.specs.Alike.{SameOutcome}
 use Rattle.call_run.specs.Calls.{Formats, Answered, Ran}
 use Rattle.call_run.specs.Runs.{commandsIn}

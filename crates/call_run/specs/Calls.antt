@@ -4,6 +4,7 @@ use mathlib.Core.List.{List, _++_}
 use mathlib.Core.Logic.{_≢_}
 use Prim.Native.Nat.{ℕ}
 use lib.ListN.{length, drop}
+use Rattle.lists.specs.Joins.{joined}
 use Rattle.call_tests.specs.Tests.{StatusOfCall}
 use Rattle.call_tests.specs.declared.Outcome.{Outcome}
 use Rattle.call_run.specs.Runs.{Runs, commandsIn}
@@ -11,7 +12,6 @@ use Rattle.pool.specs.Formatted.{formatted}
 use Rattle.pool.specs.Sound.{LengthAllowed}
 use Rattle.protocol.specs.Frames.{bytesOfAnswer}
 use Rattle.protocol.specs.declared.Answer.{Answer}
-use Rattle.shape.specs.Nested.{joined}
 
 -- format: 0 and a formatted pool, or 101 and the pool as it was
 pub record Formats (p : List ℕ) (status : ℕ) (q : List ℕ) : Type 0 where

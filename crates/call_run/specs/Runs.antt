@@ -4,8 +4,8 @@ use mathlib.Core.List.{List, [], _∷_, map}
 use Prim.Native.Nat.{ℕ, _*_, _/_}
 use lib.ListN.{length, take, drop}
 use Rattle.geometry.specs.Limits.{frameSize}
+use Rattle.lists.specs.Froms.{from}
 use Rattle.frame_execute.specs.Steps.{Step}
-use Rattle.pool.specs.Bytes.{from}
 use Rattle.protocol.specs.Frames.{commandOf}
 use Rattle.protocol.specs.declared.Answer.{Answer}
 use Rattle.protocol.specs.declared.Command.{Command}

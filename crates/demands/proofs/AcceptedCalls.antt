@@ -7,6 +7,8 @@ use native.Mathlib.Omega.{arith}
 use lib.ListN.{length, drop, length-append, length-drop}
 use lib.Seq.{take-at, drop-at}
 use Rattle.geometry.specs.Limits.{frameSize}
+use Rattle.lists.specs.Items.{All}
+use Rattle.lists.specs.Joins.{joined}
 use Rattle.call_run.proofs.Cutting.{commands-many}
 use Rattle.call_run.proofs.Runs.{runs-many, runs-long, runs-sound}
 use Rattle.call_run.proofs.Outcomes.{TestsPassed, all-passed}
@@ -17,8 +19,6 @@ use Rattle.pool.specs.Sound.{Sound}
 use Rattle.protocol.proofs.Frames.{length-of-answer}
 use Rattle.protocol.specs.Frames.{bytesOfAnswer}
 use Rattle.protocol.specs.declared.Answer.{Answer}
-use Rattle.sequence.specs.Items.{All}
-use Rattle.shape.specs.Nested.{joined}
 use Rattle.demands.specs.Accepted.{Frame, framesRun, answerFrames}
 use Rattle.demands.proofs.Eights.{length-of-frames, cut-frames}
 use Rattle.demands.proofs.FramesRun.{IsStep, each-frame}

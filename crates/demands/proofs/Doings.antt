@@ -6,8 +6,8 @@ use Prim.Native.Nat.{ℕ, _<_}
 use native.Mathlib.Omega.{arith}
 use lib.ListN.{length-map}
 use Rattle.geometry.specs.Limits.{names}
+use Rattle.lists.proofs.Froms.{length-from}
 use Rattle.machine.specs.Machine.{trees}
-use Rattle.pool.proofs.Froms.{length-from}
 use Rattle.pool.specs.Meaning.{meaningOf, meaning}
 use Rattle.protocol.proofs.Accepted.{insert-accepted, delete-accepted, name-is-below}
 use Rattle.protocol.proofs.Respond.{accepted-reply, respond-answer, own-part-after}

@@ -6,9 +6,9 @@ use native.Mathlib.Omega.{arith}
 use lib.ListN.{length, take, drop, length-append}
 use lib.Seq.{take-at, drop-at}
 use Rattle.geometry.specs.Limits.{frameSize}
+use Rattle.lists.specs.Froms.{from}
+use Rattle.lists.specs.Joins.{joined}
 use Rattle.call_run.specs.Runs.{eights}
-use Rattle.pool.specs.Bytes.{from}
-use Rattle.shape.specs.Nested.{joined}
 
 module _ {A : Type 0} (f : A → List ℕ) (eight : (x : A) → length (f x) ≡ frameSize) where
   pub length-of-frames : (xs : List A) → length (joined f xs) ≡ frameSize * length xs

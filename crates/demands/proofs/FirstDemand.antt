@@ -8,6 +8,7 @@ use Prim.Native.Nat.{ℕ, _<_}
 use native.Mathlib.Nat.{eq-zero-or-pos}
 use native.Mathlib.Omega.{arith}
 use lib.ListN.{length, length-map}
+use Rattle.lists.specs.Items.{All}
 use Rattle.forfochry.proofs.mark.Met as MarkMet
 use Rattle.text_fixed_form.specs.Mark.{markOf, firstThatFits, rules, card}
 use Rattle.forfochry.proofs.format.Met as FormatMet
@@ -21,7 +22,6 @@ use Rattle.pool.specs.Meaning.{meaning}
 use Rattle.protocol.proofs.Respond.{refused-answers-zeros}
 use Rattle.protocol.specs.Frames.{bytesOfAnswer}
 use Rattle.protocol.specs.Respond.{refused}
-use Rattle.sequence.specs.Items.{All}
 use Rattle.demands.specs.Accepted.{Frame, framesRun}
 use Rattle.demands.specs.Demand1.{FormatTakesAll, RefusedCommand, AcceptedCall, RunTakesAll, MarkTakesAll, Demand1, Demand1Ends}
 use Rattle.demands.proofs.AcceptedCalls.{

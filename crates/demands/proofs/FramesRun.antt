@@ -2,12 +2,12 @@
 use mathlib.Core.Path.{_≡_, refl, sym, ap, _∙_}
 use mathlib.Core.List.{List, [], _∷_, map}
 use Prim.Native.Nat.{ℕ}
+use Rattle.lists.specs.Items.{All}
 use Rattle.frame_execute.specs.Steps.{Step}
 use Rattle.call_run.specs.Runs.{Runs}
 use Rattle.pool.specs.Sound.{Sound}
 use Rattle.protocol.specs.declared.Answer.{Answer}
 use Rattle.protocol.specs.declared.Command.{Command}
-use Rattle.sequence.specs.Items.{All}
 use Rattle.demands.specs.Accepted.{Frame, InTurn, framesOf}
 
 pub frames-commands : (cs : List Command) (p q : List ℕ) (answers : List Answer) (runs : Runs p cs answers q)

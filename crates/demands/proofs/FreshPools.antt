@@ -6,10 +6,10 @@ use Prim.Native.Nat.{ℕ, _-_, _/_, _<_}
 use native.Mathlib.Omega.{arith}
 use lib.ListN.{length}
 use Rattle.geometry.specs.Limits.{names, blockSize, directorySize}
+use Rattle.pool.proofs.Formatted.{length-formatted, formatted-sound, formatted-meaning}
+use Rattle.pool.proofs.Meaning.{part-meaning}
 use Rattle.call_run.proofs.Outcomes.{length-cases}
 use Rattle.machine.specs.Machine.{trees}
-use Rattle.pool.proofs.FormattedSound.{length-formatted, formatted-sound, formatted-meaning}
-use Rattle.pool.proofs.Meanings.{part-meaning}
 use Rattle.pool.specs.Bytes.{shares}
 use Rattle.pool.specs.Formatted.{formatted}
 use Rattle.pool.specs.Meaning.{meaningOf, meaning}

@@ -5,18 +5,18 @@ use mathlib.Core.List.{List, [], _∷_, map}
 use Prim.Native.Nat.{ℕ, _<_}
 use lib.ListN.{getD}
 use Rattle.geometry.specs.Limits.{names}
+use Rattle.lists.proofs.Froms.{length-from}
 use Rattle.machine.proofs.Runs.{same-for-name}
 use Rattle.machine.specs.Machine.{trees}
 use Rattle.machine.specs.OneName as OneName
 use Rattle.machine.specs.OneName.{HasNames, AlikeAt, beside, isTo, isOpening, answersFor}
-use Rattle.pool.proofs.Froms.{length-from}
-use Rattle.pool.proofs.Meanings.{part-meaning}
 use Rattle.pool.specs.Meaning.{meaningOf, meaning}
 use Rattle.protocol.specs.Frames.{bytesOfAnswer}
 use Rattle.protocol.specs.Respond as Respond
 use Rattle.protocol.specs.State.{partOf}
 use Rattle.protocol.specs.declared.Answer.{Answer}
 use Rattle.protocol.specs.declared.Command.{Command}
+use Rattle.pool.proofs.Meaning.{part-meaning}
 use Rattle.demands.specs.Accepted.{Fresh, Call, Session, commandsOf}
 use Rattle.demands.specs.Demand3.{commandsTo, answersToName, openingsIn, SameCommands, Alike, AnsweredAlike}
 use Rattle.demands.proofs.FreshPools.{fresh-part}

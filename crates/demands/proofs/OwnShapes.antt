@@ -8,11 +8,12 @@ use Prim.Native.Nat.{ℕ, _<_}
 use native.Mathlib.Omega.{arith}
 use borrow.Author.Tests.{eqb-true, eqb-false}
 use Rattle.geometry.specs.Limits.{names}
+use Rattle.lists.specs.Items.{All}
+use Rattle.pool.proofs.Meaning.{part-meaning}
 use Rattle.call_run.specs.Runs.{Runs, commandsIn}
 use Rattle.machine.proofs.OwnParts.{reply-at, others-stay, opening-starts-afresh}
 use Rattle.machine.specs.Machine.{trees}
 use Rattle.machine.specs.OneName.{beside, isTo, isOpening, framesTo}
-use Rattle.pool.proofs.Meanings.{part-meaning}
 use Rattle.pool.specs.Meaning.{meaningOf, meaning}
 use Rattle.protocol.proofs.Accepted.{open-accepted}
 use Rattle.protocol.proofs.Respond.{refused-reply, respond-status, own-part-after}
@@ -22,7 +23,6 @@ use Rattle.protocol.specs.Respond.{reply}
 use Rattle.protocol.specs.State.{Part, opened, partOf, unpromised}
 use Rattle.protocol.specs.declared.Answer.{Answer}
 use Rattle.protocol.specs.declared.Command.{Command}
-use Rattle.sequence.specs.Items.{All}
 use Rattle.shape.specs.Trees.{Tree, emptyT}
 use Rattle.demands.specs.Accepted.{Frame, framesOf, framesRun, Call, Session}
 use Rattle.demands.specs.Demand3.{partAfter, Since, framesIn, ShapeIsOwn}

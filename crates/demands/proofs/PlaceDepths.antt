@@ -8,7 +8,6 @@ use native.Mathlib.Omega.{arith}
 use lib.ListN.{length, getD, length-append}
 use Rattle.geometry.specs.Limits.{names, mostShares}
 use Rattle.machine.specs.Machine.{FilledPart, FilledState}
-use Rattle.pool.proofs.Meanings.{closed-meaning, open-meaning, part-meaning, no-part}
 use Rattle.pool.proofs.SoundNames.{open-filled, open-readable}
 use Rattle.pool.proofs.Ways.{Way, path-way, length-pathAt, path-ends}
 use Rattle.pool.specs.Blocks.{leafMarks, link}
@@ -21,6 +20,7 @@ use Rattle.protocol.specs.State.{partOf}
 use Rattle.shape.proofs.Descent.{path-leads}
 use Rattle.shape.specs.Paths.{Leads, path, leafAt, leftOf, rightOf}
 use Rattle.shape.specs.Trees.{marksT}
+use Rattle.pool.proofs.Meaning.{closed-meaning, open-meaning, part-meaning, no-part}
 use Rattle.demands.specs.Demand2.{Linked, lastOf, FromRootTo}
 
 module _ (p : List ℕ) where

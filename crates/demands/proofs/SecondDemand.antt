@@ -11,7 +11,6 @@ use Rattle.machine.proofs.Depth.{access-tells-depth, others-tell-no-depth}
 use Rattle.machine.proofs.Machine.{image-of-respond}
 use Rattle.machine.specs.Depth.{DepthTold}
 use Rattle.machine.specs.Machine.{trees}
-use Rattle.pool.proofs.Meanings.{closed-meaning, open-meaning, part-meaning, valid-meaning}
 use Rattle.pool.proofs.SoundNames.{open-depth}
 use Rattle.pool.specs.Meaning.{meaning}
 use Rattle.pool.specs.Names.{recordOf, treeOf}
@@ -27,6 +26,7 @@ use Rattle.protocol.specs.Respond.{withoutDepth, answersTo, stateAfter}
 use Rattle.protocol.specs.State.{closed, isOpen, partOf, marksOf, unpromised, lists, partAsList, asLists}
 use Rattle.sequence.proofs.Selects.{rank-select, access-select, select-rank}
 use Rattle.shape.specs.Trees.{marksT}
+use Rattle.pool.proofs.Meaning.{closed-meaning, open-meaning, part-meaning, valid-meaning}
 use Rattle.demands.specs.Accepted.{Frame, Call, Session, commandsOf}
 use Rattle.demands.specs.Demand2.{
   held,

@@ -11,6 +11,7 @@ use contract.Lifetimes.{Lfts}
 use contract.Notation.{connectives}
 use denote.Ref.{now}
 use denote.Triple.Clauses.{AtExit}
+use Rattle.lists.specs.Items.{All}
 use Rattle.forfochry.proofs.mark as mark
 use Rattle.forfochry.proofs.mark.Reads as MarkReads
 use Rattle.forfochry.proofs.mark.Statement as Mark
@@ -31,7 +32,6 @@ use Rattle.pool.specs.Formatted.{formatted}
 use Rattle.pool.specs.Sound.{LengthAllowed}
 use Rattle.protocol.specs.Frames.{bytesOfAnswer}
 use Rattle.protocol.specs.Respond.{refused}
-use Rattle.sequence.specs.Items.{All}
 use Rattle.demands.specs.Accepted.{Frame, InTurn, framesRun, answerFrames}
 
 -- format, whatever the bytes: 0 and a formatted pool, or 101 and every byte as it was

@@ -7,6 +7,7 @@ use mathlib.Core.Logic.{_↔_, _≢_}
 use Prim.Native.Nat.{ℕ, _+_, _-_, _*_, _≤_, _<_}
 use lib.ListN.{length, getD, take}
 use Rattle.geometry.specs.Limits.{marksPerShare}
+use Rattle.lists.specs.Items.{All}
 use Rattle.call_run.specs.Calls.{Ran}
 use Rattle.call_tests.specs.declared.Outcome.{Outcome}
 use Rattle.machine.specs.Machine.{trees}
@@ -21,7 +22,6 @@ use Rattle.protocol.specs.Refusals.{NoneApplies, Lowest, refusals}
 use Rattle.protocol.specs.Respond.{respond, withoutDepth}
 use Rattle.protocol.specs.State.{Part, State, freshState, partOf, sharesOf, marksOf, unpromised, lists, asLists}
 use Rattle.sequence.specs.Definition1.{count, access, rank, select, insert, delete}
-use Rattle.sequence.specs.Items.{All}
 use Rattle.shape.specs.Depth.{DepthRule}
 use Rattle.demands.specs.Accepted.{Frame, framesRun, Fresh, Call, Session, commandsOf, answersOf}
 

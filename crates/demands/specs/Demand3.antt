@@ -8,6 +8,7 @@ use mathlib.Core.Logic.{_≢_}
 use Prim.Native.Nat.{ℕ, _<_}
 use lib.ListN.{getD}
 use Rattle.geometry.specs.Limits.{names}
+use Rattle.lists.specs.Items.{All}
 use Rattle.call_run.specs.Calls.{Ran}
 use Rattle.call_tests.specs.declared.Outcome.{Outcome}
 use Rattle.machine.specs.Machine.{trees}
@@ -19,7 +20,6 @@ use Rattle.protocol.specs.Commands.{openCode}
 use Rattle.protocol.specs.Respond.{reply}
 use Rattle.protocol.specs.State.{Part, opened}
 use Rattle.protocol.specs.declared.Command.{Command}
-use Rattle.sequence.specs.Items.{All}
 use Rattle.shape.specs.Trees.{Tree, emptyT}
 use Rattle.demands.specs.Accepted.{Frame, framesRun, Fresh, Call, Session, commandsOf, answersOf}
 use Rattle.demands.specs.Demand2.{Demand2}

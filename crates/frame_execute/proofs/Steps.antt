@@ -10,9 +10,9 @@ use lib.ListN.{length, set}
 use Rattle.geometry.specs.Limits.{names, marksPerShare}
 use Rattle.geometry.specs.declared.Record.{Record}
 use Rattle.machine.specs.Machine.{trees}
+use Rattle.pool.proofs.Meaning.{part-meaning, unpromised-meaning, meaning-after}
+use Rattle.pool.proofs.Untouched.{blocks-of-untouched}
 use Rattle.name_open_close.specs.Updates.{NameIn, OpenReady, CloseReady, Updated}
-use Rattle.pool.proofs.Meanings.{part-meaning, unpromised-meaning, meaning-after}
-use Rattle.pool.proofs.NamesKept.{blocks-of-untouched}
 use Rattle.pool.specs.Bytes.{shares}
 use Rattle.pool.specs.Meaning.{meaning}
 use Rattle.pool.specs.Names.{recordOf, blocksOf}
@@ -31,6 +31,9 @@ use Rattle.protocol.specs.Commands.{
   edited,
 }
 use Rattle.protocol.specs.Respond.{accepted, valueTo, refused, respond}
+use Rattle.protocol.specs.Commands.{openCode, closeCode, insertCode, deleteCode, accessCode, unpromisedCode}
+use Rattle.protocol.specs.Commands.{Effect, edited}
+use Rattle.protocol.specs.Respond.{accepted, refused, respond}
 use Rattle.protocol.specs.State.{Part, closed, opened, alphabetOf, sharesOf, marksOf, partOf, unpromised}
 use Rattle.protocol.specs.declared.Answer.{Answer}
 use Rattle.protocol.specs.declared.Command.{Command}
@@ -203,7 +206,7 @@ module _ (p m : List ℕ) (c : Command) (ready : Ready p m) (status : statusIn p
           first = insert-allowed .low;
           last = omega (arith, insert-allowed .high, marks, long);
           symbol = omega (arith, insert-allowed .symbol, ap alphabetOf (insert-open .part));
-          room = omega (arith, full, marks, long, ap sharesOf (insert-open .part), insert-open .opened .room);
+          room = omega (arith, full, marks, long, ap sharesOf (insert-open .part), insert-open .opened .entry .room);
         }
 
     pub insert-steps : (q n : List ℕ) (found : Record) (a : Answer) → found ≡ recordOf p (c .name) → InsertedAt (c .name) (c .number) (c .symbol) p q n

@@ -7,7 +7,6 @@ use lib.ListN.{length}
 use Rattle.geometry.specs.Limits.{mostAlphabet}
 use Rattle.geometry.specs.declared.Record.{Record}
 use Rattle.machine.specs.Machine.{trees}
-use Rattle.pool.proofs.Meanings.{unpromised-meaning}
 use Rattle.pool.specs.Meaning.{meaning}
 use Rattle.pool.specs.Shares.{unpromisedShares}
 use Rattle.pool.specs.Sound.{Sound}
@@ -17,8 +16,9 @@ use Rattle.protocol.specs.Respond.{accepted, valueTo}
 use Rattle.protocol.specs.State.{Part, alphabetOf, marksOf, partOf, unpromised}
 use Rattle.protocol.specs.declared.Answer.{Answer}
 use Rattle.protocol.specs.declared.Command.{Command}
+use Rattle.pool.proofs.Meaning.{unpromised-meaning}
 use Rattle.tree_query.specs.Answers.{FoundOf}
-use Rattle.tree_query.specs.Records.{OpenRecord, treeBy}
+use Rattle.tree_query.specs.Records.{OfOpenName, treeBy}
 use Rattle.tree_query.specs.declared.Found.{Found}
 use Rattle.sequence.proofs.Ranks.{rank-le-place}
 use Rattle.sequence.proofs.Selects.{select-le-length}
@@ -40,7 +40,7 @@ module _ (p : List ℕ) (c : Command) (found : Record) (a : Accepted p c found) 
   access-open =
       accepted-open p c (a .sound) (a .status) (λ (e : c .code ≡ unpromisedCode). omega arith) (access-allowed .is-open) found (a .read)
 
-  pub access-record : OpenRecord p found
+  pub access-record : OfOpenName p found
   access-record = access-open .asked
 
   pub access-first : 1 ≤ c .number
@@ -69,7 +69,7 @@ module _ (p : List ℕ) (c : Command) (found : Record) (a : Accepted p c found) 
   rank-open =
       accepted-open p c (a .sound) (a .status) (λ (e : c .code ≡ unpromisedCode). omega arith) (rank-allowed .is-open) found (a .read)
 
-  pub rank-record : OpenRecord p found
+  pub rank-record : OfOpenName p found
   rank-record = rank-open .asked
 
   pub rank-symbol : c .symbol < mostAlphabet
@@ -99,7 +99,7 @@ module _ (p : List ℕ) (c : Command) (found : Record) (a : Accepted p c found) 
   select-open =
       accepted-open p c (a .sound) (a .status) (λ (e : c .code ≡ unpromisedCode). omega arith) (select-allowed .is-open) found (a .read)
 
-  pub select-record : OpenRecord p found
+  pub select-record : OfOpenName p found
   select-record = select-open .asked
 
   pub select-symbol : c .symbol < mostAlphabet

@@ -9,9 +9,9 @@ use lib.ListN.{length}
 use Rattle.geometry.specs.Layout.{mostHeight}
 use Rattle.geometry.specs.Limits.{names, mostAlphabet, marksPerShare, mostMarks}
 use Rattle.geometry.specs.declared.Record.{Record}
+use Rattle.geometry.specs.Limits.{names, mostMarks}
+use Rattle.lists.proofs.Sums.{sumBelow-one}
 use Rattle.machine.specs.Machine.{trees}
-use Rattle.pool.proofs.Meanings.{part-meaning}
-use Rattle.pool.proofs.Sums.{sumBelow-one}
 use Rattle.pool.specs.Meaning.{meaning}
 use Rattle.pool.specs.Names.{recordOf, treeOf}
 use Rattle.pool.specs.Shares.{promisedShares}
@@ -19,15 +19,18 @@ use Rattle.pool.specs.Sound.{ClosedName, OpenName, Sound}
 use Rattle.protocol.proofs.Accepted.{name-is-below}
 use Rattle.protocol.proofs.Respond.{accepted-reply, respond-answer}
 use Rattle.protocol.specs.Commands.{Effect, unpromisedCode, rows, rowOf, rowFor}
+use Rattle.protocol.specs.Commands.{unpromisedCode}
+use Rattle.protocol.specs.Commands.{Effect, rows, rowFor}
 use Rattle.protocol.specs.Respond.{accepted, reply}
 use Rattle.protocol.specs.State.{Part, closed, isOpen, partOf, unpromised}
 use Rattle.protocol.specs.State as State
 use Rattle.protocol.specs.declared.Command.{Command}
 use Rattle.shape.specs.Trees.{Tree, marksT}
+use Rattle.pool.proofs.Meaning.{part-meaning}
 use Rattle.frame_status.specs.Statuses.{statusIn}
 use Rattle.frame_status.proofs.Parts.{is-open, is-closed, opened-part}
 use Rattle.tree_query.proofs.Records.{open-record}
-use Rattle.tree_query.specs.Records.{OpenRecord, treeBy}
+use Rattle.tree_query.specs.Records.{OfOpenName, treeBy}
 use Rattle.frame_queries.specs.Accepted.{Accepted, answerOf}
 
 -- the effect of a command on a pool
@@ -43,7 +46,7 @@ coded-effect free part c code is = ap (λ x. rowOf x (rows trees) .effect free p
 pub record ToOpen (p : List ℕ) (c : Command) (found : Record) : Type 0 where
   pub low : c .name < names
   pub opened : OpenName p (c .name)
-  pub asked : OpenRecord p found
+  pub asked : OfOpenName p found
   pub long : found .length ≡ length (marksT (treeBy p found))
   pub most : found .alphabet ≤ mostAlphabet
   pub high : found .height ≤ mostHeight
@@ -55,7 +58,7 @@ pub record ToOpen (p : List ℕ) (c : Command) (found : Record) : Type 0 where
 marks-few : (p : List ℕ) (name : ℕ) → Sound p → name < names → OpenName p name → length (marksT (treeOf p name)) ≤ mostMarks
 unfolding promisedShares
 marks-few p name sound low o =
-    omega (arith, sound .allowed, sound .promised, o .length, o .room, sumBelow-one names (λ x. recordOf p x .q) name low)
+    omega (arith, sound .allowed, sound .promised, o .length, o .entry .room, sumBelow-one names (λ x. recordOf p x .q) name low)
 
 module _ (p : List ℕ) (c : Command) (sound : Sound p) (status : statusIn p c ≡ 0) where
   -- the answer is made of the effect, and so is the part

@@ -8,19 +8,8 @@ use borrow.Author.Tests.{eqb-true, eqb-false, leb-true, le-leb}
 use lib.Dec.{eqb, leb}
 use Rattle.machine.specs.Machine.{trees}
 use Rattle.protocol.proofs.Bools.{neither}
-use Rattle.protocol.specs.Commands.{
-  openCode,
-  closeCode,
-  insertCode,
-  deleteCode,
-  accessCode,
-  rankCode,
-  selectCode,
-  lengthCode,
-  unpromisedCode,
-  rows,
-  rowOf,
-}
+use Rattle.protocol.specs.Commands.{openCode, closeCode, insertCode, deleteCode, accessCode, rankCode, selectCode, lengthCode, unpromisedCode}
+use Rattle.protocol.specs.Commands.{rows, rowOf}
 use Rattle.protocol.specs.Refusals.{listed}
 
 -- a code is the first that it is compared with, or one of the rest

@@ -8,11 +8,12 @@ use native.Mathlib.Omega.{arith}
 use Rattle.geometry.specs.Layout.{kindClosed}
 use Rattle.geometry.specs.Limits.{names}
 use Rattle.geometry.specs.declared.Record.{Record}
-use Rattle.pool.proofs.Meanings.{closed-meaning, open-meaning, part-meaning}
 use Rattle.pool.specs.Meaning.{meaningOf, meaning}
 use Rattle.pool.specs.Names.{recordOf, treeOf}
 use Rattle.pool.specs.Sound.{ClosedName, OpenName, Sound}
 use Rattle.protocol.specs.State.{closed, opened, isOpen, partOf}
+use Rattle.protocol.specs.State.{closed, opened, isOpen, partOf}
+use Rattle.pool.proofs.Meaning.{closed-meaning, open-meaning, part-meaning}
 
 module _ (p : List ℕ) (name : ℕ) where
   module _ (sound : Sound p) (low : name < names) where

@@ -11,7 +11,7 @@ use lib.ListN.{length}
 use Rattle.geometry.specs.Layout.{kindClosed}
 use Rattle.geometry.specs.Limits.{names, leastAlphabet, mostAlphabet, marksPerShare}
 use Rattle.geometry.specs.declared.Record.{Record}
-use Rattle.pool.proofs.Meanings.{unpromised-meaning}
+use Rattle.pool.specs.Meaning.{meaning}
 use Rattle.pool.specs.Meaning.{meaning}
 use Rattle.pool.specs.Shares.{unpromisedShares}
 use Rattle.pool.specs.Sound.{OpenName}
@@ -21,8 +21,10 @@ use Rattle.protocol.specs.declared.Command.{Command}
 use Rattle.sequence.specs.Definition1.{count}
 use Rattle.shape.specs.Trees.{Tree, marksT}
 use Rattle.tree_query.proofs.Records.{open-by-kind, open-record, record-length}
-use Rattle.tree_query.specs.Records.{OpenRecord, treeBy}
+use Rattle.tree_query.specs.Records.{OfOpenName, treeBy}
 use Rattle.frame_status.specs.Statuses.{statusIn, WellFormed, Naming, Asking, StatusBy}
+use Rattle.pool.proofs.Meaning.{unpromised-meaning}
+use Rattle.frame_status.specs.Statuses.{statusIn, WellFormed, Naming, Asking}
 use Rattle.frame_status.proofs.Codes.{listed-within}
 use Rattle.frame_status.proofs.Forms.{laterStatus, later-tests, name-below}
 use Rattle.frame_status.proofs.Parts.{closed-by-kind, closed-part, opened-part}
@@ -143,7 +145,7 @@ module _ (p : List ℕ) (c : Command) (found : Record) (k : Asking p c found) wh
   asked = by-part p c _ (k .naming .formed) asked-part
 
   -- its tree can be asked
-  pub asked-record : OpenRecord p found
+  pub asked-record : OfOpenName p found
   asked-record = open-record p (c .name) found (k .opened) (k .naming .read)
 
   long : length (marksT (treeBy p found)) ≡ found .length
@@ -213,7 +215,7 @@ module _ (p : List ℕ) (c : Command) (found : Record) (k : Asking p c found) wh
     module _ (inside : c .symbol < found .alphabet) where
       -- its symbol can be counted
       pub select-counts : c .symbol < mostAlphabet
-      select-counts = omega (arith, k .opened .alphabetMost, ap (λ (r : Record). r .alphabet) (k .naming .read))
+      select-counts = omega (arith, k .opened .entry .alphabetMost, ap (λ (r : Record). r .alphabet) (k .naming .read))
 
       pub select-zero : c .number ≡ 0 → 10 ≡ statusIn p c
       select-zero zero =

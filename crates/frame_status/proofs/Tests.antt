@@ -22,6 +22,8 @@ use Rattle.protocol.specs.Commands.{
   unpromisedCode,
   rows,
 }
+use Rattle.protocol.specs.Commands.{openCode, closeCode, insertCode, deleteCode, accessCode, rankCode, selectCode, lengthCode, unpromisedCode}
+use Rattle.protocol.specs.Commands.{rows}
 use Rattle.protocol.specs.Refusals.{refusals, listed}
 use Rattle.protocol.specs.State.{Part, closed, opened}
 use Rattle.protocol.specs.declared.Command.{Command}

@@ -9,6 +9,7 @@ use borrow.Author.Tests.{eqb-true, eqb-false, le-ltb}
 use lib.Dec.{ltb}
 use lib.ListN.{getD, take}
 use Rattle.geometry.specs.Limits.{names}
+use Rattle.lists.specs.Items.{All}
 use Rattle.protocol.proofs.Accepted.{name-is-below, unpromised-accepted}
 use Rattle.protocol.proofs.Bools.{both}
 use Rattle.protocol.proofs.Respond.{accepted-reply, refused-reply, status-goes-by-part, respond-status, other-parts-stay, own-part-after}
@@ -19,7 +20,6 @@ use Rattle.protocol.specs.Refusals.{Refusal, applies, firstOf, refusals, status
 use Rattle.protocol.specs.Respond.{Reply, replyOf, reply, respond}
 use Rattle.protocol.specs.State.{Part, State, opened, partOf, unpromised}
 use Rattle.protocol.specs.declared.Command.{Command}
-use Rattle.sequence.specs.Items.{All}
 use Rattle.shape.specs.Trees.{Tree, emptyT}
 use Rattle.machine.specs.Machine.{trees}
 use Rattle.machine.specs.OneName.{HasNames, replyIn, isOpening, OwnPartOnly, OtherPartsStay}

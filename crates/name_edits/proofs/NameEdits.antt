@@ -9,17 +9,17 @@ use lib.ListN.{length, getD}
 use Rattle.geometry.specs.declared.Record.{Record}
 use Rattle.sequence.proofs.Edits.{length-insert, length-delete, allBelow-insert, allBelow-delete}
 use Rattle.sequence.specs.Definition1.{count, insert, delete}
+use Rattle.sequence.proofs.Counts.{all-standing}
 use Rattle.shape.proofs.Marks.{insertT-marks, deleteT-marks}
 use Rattle.shape.specs.Sizes.{oneToAByte}
 use Rattle.shape.specs.Trees.{marksT, insertT, deleteT}
-use Rattle.pool.proofs.Changed.{only-wider}
-use Rattle.pool.proofs.Distincts.{all-standing}
 use Rattle.pool.proofs.SoundNames.{open-marks, open-readable}
 use Rattle.pool.proofs.Ways.{path-among}
 use Rattle.pool.specs.Names.{recordOf, treeOf}
 use Rattle.pool.specs.Records.{PutRecord}
 use Rattle.pool.specs.Trees.{blocksAt, pathAt}
 use Rattle.pool.specs.Words.{wordLimit}
+use Rattle.pool.proofs.Changes.{only-wider}
 use Rattle.pool_holders.specs.Maps.{isFree, Freed}
 use Rattle.tree_insert.specs.Trees.{TreeReady, TreeInserted}
 use Rattle.tree_insert.specs.declared.tree.Rooted.{Rooted}
@@ -94,7 +94,7 @@ module _ (p q m n : List ℕ) (name i : ℕ) (at : DeleteAt p m name i) (g : Rem
       record {
         alphabet = rw marks (allBelow-delete (recordOf p name .alphabet) i (marksT (treeOf p name)) (open-marks p name (at .opened)));
         many = omega (arith, at .opened .length, ap length marks, length-delete i (marksT (treeOf p name)) (at .first) (omega (arith, at .last, at .opened .length)));
-        room = omega (arith, at .opened .room);
+        room = omega (arith, at .opened .entry .room);
       }
 
 -- The same as the code has it: `old` is the record that was read.

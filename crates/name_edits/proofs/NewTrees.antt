@@ -9,19 +9,16 @@ use lib.ListN.{length, getD}
 use Rattle.geometry.specs.Layout.{mostHeight}
 use Rattle.geometry.specs.Limits.{mostAlphabet, marksPerShare}
 use Rattle.geometry.specs.declared.Record.{Record}
+use Rattle.lists.specs.Items.{AllBelow}
+use Rattle.sequence.proofs.Counts.{standing-all}
 use Rattle.protocol.specs.Commands.{edited}
 use Rattle.protocol.specs.State.{Part, opened}
-use Rattle.sequence.specs.Alphabet.{AllBelow}
 use Rattle.sequence.specs.Definition1.{count}
 use Rattle.shape.proofs.Instances.{height-in-pool}
 use Rattle.shape.specs.Fill.{FilledT, rootLeast}
 use Rattle.shape.specs.Nested.{marksIn}
 use Rattle.shape.specs.Sizes.{oneToAByte}
 use Rattle.shape.specs.Trees.{Tree, marksT}
-use Rattle.pool.proofs.Changed.{directory-blocks}
-use Rattle.pool.proofs.Distincts.{standing-all}
-use Rattle.pool.proofs.Frames.{same-block, shape-kept, blocks-kept, below-kept}
-use Rattle.pool.proofs.Meanings.{open-meaning}
 use Rattle.pool.proofs.SoundNames.{open-blocks}
 use Rattle.pool.proofs.SoundTrees.{sound-filled, sound-readable}
 use Rattle.pool.proofs.Ways.{Readable}
@@ -33,6 +30,9 @@ use Rattle.pool.specs.Sound.{SoundBlock, SoundBelow, OpenName}
 use Rattle.pool.specs.Trees.{shapeAt, treeAt, blocksAt}
 use Rattle.pool.specs.Untouched.{SameBlocks}
 use Rattle.pool.specs.Words.{wordLimit}
+use Rattle.pool.proofs.Changes.{directory-blocks}
+use Rattle.pool.proofs.Meaning.{open-meaning}
+use Rattle.pool.proofs.TreesKept.{same-block, shape-kept, blocks-kept, below-kept}
 use Rattle.pool_holders.specs.Maps.{isFree}
 use Rattle.tree_insert.proofs.Outcomes.{sound-narrower}
 use Rattle.name_open_close.proofs.ExactMaps.{Turns, own-or-free-in}
@@ -101,17 +101,20 @@ module _ (p q m n : List ℕ) (name : ℕ) (within : NameIn p m name) (old : Ope
     new-open =
         let is : recordOf r name ≡ withTree (recordOf p name) level root marks = put .is in
         record {
-          kind = rw is (old .kind);
-          alphabetLeast = rw is (old .alphabetLeast);
-          alphabetMost = rw is (old .alphabetMost);
-          promise = rw is (old .promise);
-          height = rw is new-height;
-          zeroByte = put .zeroByte;
-          spare = put .spare;
+          entry =
+              record {
+                kind = rw is (old .entry .kind);
+                alphabetLeast = rw is (old .entry .alphabetLeast);
+                alphabetMost = rw is (old .entry .alphabetMost);
+                promise = rw is (old .entry .promise);
+                height = rw is new-height;
+                zeroByte = put .zeroByte;
+                spare = put .spare;
+                room = rw is (fit .room);
+              };
           root = rw is (same-block q r root (block-same root) (put .same .long) (rootLeast level) level (changed .block));
           below = rw is (below-kept q r (put .same .long) (recordOf p name .alphabet) level root new-readable blocks-same new-below);
           length = rw is (new-marks ∙ ap (marksIn level) (sym new-shape));
-          room = rw is (fit .room);
         }
 
     new-tree : treeOf r name ≡ t

@@ -4,10 +4,10 @@ use mathlib.Core.List.{List}
 use Prim.Native.Nat.{ℕ, _+_, _*_, _≤_, _<_}
 use native.Mathlib.Omega.{arith}
 use Rattle.geometry.specs.Limits.{names, mostAlphabet, marksPerShare, mostMarks}
+use Rattle.lists.proofs.Sums.{sumBelow-one}
 use Rattle.shape.specs.Blocks.{splitsT}
 use Rattle.shape.specs.Sizes.{oneToAByte}
 use Rattle.pool.proofs.SoundNames.{insert-room}
-use Rattle.pool.proofs.Sums.{sumBelow-one}
 use Rattle.pool.specs.Names.{recordOf, treeOf}
 use Rattle.pool.specs.Shares.{promisedShares}
 use Rattle.pool.specs.Sound.{OpenName, Sound, SoundBelow}
@@ -25,7 +25,7 @@ promise-most p name low sound = omega (arith, sumBelow-one names (λ y. recordOf
 
 below-any : (p : List ℕ) (name : ℕ) → OpenName p name → SoundBelow p mostAlphabet (recordOf p name .height) (recordOf p name .root)
 below-any p name opened =
-    sound-wider p (recordOf p name .alphabet) mostAlphabet (opened .alphabetMost) (recordOf p name .height) (recordOf p name .root) (opened .below)
+    sound-wider p (recordOf p name .alphabet) mostAlphabet (opened .entry .alphabetMost) (recordOf p name .height) (recordOf p name .root) (opened .below)
 
 pub insert-ready : (p m : List ℕ) (name i c : ℕ) → InsertAt p m name i c → TreeReady p m (recordOf p name .height) (recordOf p name .root) i c (name + 1)
 insert-ready p m name i c at =
@@ -42,11 +42,11 @@ insert-ready p m name i c at =
             agrees = open-agrees p m (at .within .map) sound name (at .within .low) (at .opened);
             first = at .first;
             last = omega (arith, at .last, at .opened .length);
-            symbol = omega (arith, at .symbol, at .opened .alphabetMost);
+            symbol = omega (arith, at .symbol, at .opened .entry .alphabetMost);
             short = omega (arith, at .room, at .opened .length, promise-most p name (at .within .low) sound);
             room = omega (arith, room);
           };
-      height = at .opened .height;
+      height = at .opened .entry .height;
       room = room;
     }
 
@@ -60,5 +60,5 @@ delete-ready p m name i at =
       agrees = open-agrees p m (at .within .map) sound name (at .within .low) (at .opened);
       first = at .first;
       last = omega (arith, at .last, at .opened .length);
-      short = omega (arith, at .opened .room, at .opened .length, promise-most p name (at .within .low) sound);
+      short = omega (arith, at .opened .entry .room, at .opened .length, promise-most p name (at .within .low) sound);
     }

@@ -16,9 +16,9 @@ use Rattle.pool.specs.Names.{recordOf, blocksOf}
 use Rattle.pool.specs.Records.{PutRecord}
 use Rattle.pool.specs.Sound.{ClosedName}
 use Rattle.pool.specs.Untouched.{Untouched}
-use Rattle.pool.proofs.Changed.{only-none}
-use Rattle.pool.proofs.Meanings.{closed-meaning}
 use Rattle.pool.proofs.SoundNames.{closed-blocks}
+use Rattle.pool.proofs.Changes.{only-none}
+use Rattle.pool.proofs.Meaning.{closed-meaning}
 use Rattle.pool.proofs.Written.{closed-put}
 use Rattle.pool_holders.specs.Maps.{isFree, HolderFreed}
 use Rattle.name_open_close.specs.Updates.{CloseReady, Updated}

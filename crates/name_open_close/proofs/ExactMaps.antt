@@ -10,10 +10,11 @@ use native.Mathlib.Omega.{arith}
 use borrow.Author.Tests.{leb-false, lt-leb}
 use lib.ListN.{length, getD, List·getD-eq-default}
 use Rattle.geometry.specs.Limits.{names, blockSize, directorySize}
-use Rattle.sequence.specs.Alphabet.{sumBelow}
+use Rattle.lists.proofs.Sums.{sumBelow-same, sumBelow-one, sumBelow-two}
+use Rattle.lists.specs.Items.{All}
+use Rattle.lists.specs.Sums.{sumBelow}
 use Rattle.sequence.specs.Definition1.{isMark, count, rank, access}
-use Rattle.sequence.specs.Items.{All}
-use Rattle.sequence.proofs.Counts.{isMark-same, isMark-other, isMark-cases, isMark-le-one}
+use Rattle.sequence.proofs.Counts.{isMark-same, isMark-other, isMark-cases, isMark-le-one, all-standing, standing-all}
 use Rattle.sequence.proofs.Ranks.{rank-zero, rank-step, rank-length}
 use Rattle.shape.proofs.Choice.{by-leb}
 use Rattle.pool.specs.Bytes.{shares}
@@ -22,11 +23,9 @@ use Rattle.pool.specs.Shares.{isHeld, freeBlocks}
 use Rattle.pool.specs.Sound.{OpenName, Distinct, Sound}
 use Rattle.pool.specs.Trees.{blocksAt}
 use Rattle.pool.specs.Untouched.{Untouched}
-use Rattle.pool.proofs.Distincts.{all-standing, standing-all}
-use Rattle.pool.proofs.NamesKept.{blocks-of-untouched}
 use Rattle.pool.proofs.SoundAfter.{held-after}
 use Rattle.pool.proofs.SoundNames.{open-blocks, name-distinct, held-inside}
-use Rattle.pool.proofs.Sums.{sumBelow-same, sumBelow-one, sumBelow-two}
+use Rattle.pool.proofs.Untouched.{blocks-of-untouched}
 use Rattle.pool_check.proofs.Holders.{times-held, name-inside}
 use Rattle.pool_check.proofs.Readings.{zero-free, held-by}
 use Rattle.pool_holders.specs.Maps.{Exact, isFree, freeIn, Agrees, Entered}

@@ -10,8 +10,9 @@ use lib.ListN.{length, getD}
 use Rattle.geometry.specs.Layout.{headerSize}
 use Rattle.geometry.specs.Limits.{names}
 use Rattle.geometry.specs.declared.Record.{Record}
+use Rattle.lists.proofs.Items.{all-map}
 use Rattle.sequence.specs.Definition1.{count}
-use Rattle.sequence.proofs.Items.{all-map}
+use Rattle.sequence.proofs.Counts.{standing-all}
 use Rattle.protocol.specs.State.{Part}
 use Rattle.shape.specs.Trees.{Tree}
 use Rattle.pool.specs.Bytes.{byte, recordAt}
@@ -22,11 +23,12 @@ use Rattle.pool.specs.Records.{PutRecord}
 use Rattle.pool.specs.Shares.{unpromisedShares}
 use Rattle.pool.specs.Sound.{ClosedName, OpenName, Sound}
 use Rattle.pool.specs.Untouched.{SameRecord, Untouched}
-use Rattle.pool.proofs.Changed.{directory-blocks}
-use Rattle.pool.proofs.Distincts.{standing-all}
-use Rattle.pool.proofs.NamesKept.{only-untouched}
 use Rattle.pool.proofs.SoundAfter.{sound-after}
 use Rattle.pool_holders.specs.Maps.{Exact, isFree}
+use Rattle.name_open_close.specs.Updates.{Updated}
+use Rattle.pool.proofs.Changes.{directory-blocks}
+use Rattle.pool.proofs.Untouched.{only-untouched}
+use Rattle.pool_holders.specs.Maps.{isFree}
 use Rattle.name_open_close.specs.Updates.{Updated}
 use Rattle.name_open_close.proofs.ExactMaps.{Turns, held-two, name-distinct-after, own-after, exact-after}
 

@@ -20,9 +20,9 @@ use Rattle.pool.specs.Records.{PutRecord}
 use Rattle.pool.specs.Sound.{OpenName}
 use Rattle.pool.specs.Trees.{shapeAt, blocksAt}
 use Rattle.pool.specs.Untouched.{Untouched}
-use Rattle.pool.proofs.Changed.{directory-blocks, word-in-block}
-use Rattle.pool.proofs.Meanings.{open-meaning}
 use Rattle.pool.proofs.SoundNames.{closed-blocks, open-blocks, unpromised-free}
+use Rattle.pool.proofs.Changes.{directory-blocks, word-in-block}
+use Rattle.pool.proofs.Meaning.{open-meaning}
 use Rattle.pool_blocks.specs.Moves.{Emptied}
 use Rattle.pool_holders.specs.Maps.{isFree, freeIn, BlockTaken}
 use Rattle.pool_holders.proofs.Takes.{taken-long, taken-blocks, taken-entered}
@@ -61,17 +61,19 @@ module _ (p q r m n : List ℕ) (name alphabet promise root : ℕ) (ready : Open
 
   opened-now : OpenName r name
   opened-now = record {
-    kind = ap (λ (x : Record). x .kind) record-now;
-    alphabetLeast = rw record-now (ready .least);
-    alphabetMost = rw record-now (ready .most);
-    promise = rw record-now (ready .some);
-    height = rw record-now (omega arith);
-    zeroByte = written .zeroByte;
-    spare = written .spare;
+    entry = record {
+      kind = ap (λ (x : Record). x .kind) record-now;
+      alphabetLeast = rw record-now (ready .least);
+      alphabetMost = rw record-now (ready .most);
+      promise = rw record-now (ready .some);
+      height = rw record-now (omega arith);
+      zeroByte = written .zeroByte;
+      spare = written .spare;
+      room = rw record-now (omega arith);
+    };
     root = rw record-now (record { inside = inside; form = form-now; enough = omega arith; fits = omega (arith, entries-now) });
     below = rw (record-now, marks-now) tt;
     length = rw (record-now, marks-now);
-    room = rw record-now (omega arith);
   }
 
   blocks-now : blocksOf r name ≡ root ∷ []

@@ -4,14 +4,15 @@ use mathlib.Core.List.{List}
 use Prim.Native.Nat.{ℕ, _+_, _/_, _%_, _≤_, _<_}
 use native.Mathlib.Omega.{arith}
 use borrow.Author.Count.{below-none, below-more}
-use lib.ListN.{length, set, length-set}
+use lib.ListN.{length, take, drop, set, length-set}
 use lib.Seq.{getD-set-same, getD-set-other}
 use Rattle.geometry.specs.Layout.{wordSize}
+use Rattle.lists.proofs.Cuts.{cut-equal}
 use Rattle.pool.specs.Bytes.{byte}
 use Rattle.pool.specs.Changes.{Outside}
 use Rattle.pool.specs.Words.{PutByte, PutWord, Copied, Moved, Cleared}
 use Rattle.pool.proofs.Words.{word-is}
-use Rattle.pool.proofs.Changed.{outside-none, outside-then, outside-wider}
+use Rattle.pool.proofs.Changes.{outside-none, outside-then, outside-wider}
 
 -- one store
 pub put-one : (p : List ℕ) (at value : ℕ) → at < length p → PutByte at value p (set p at value)
@@ -83,6 +84,12 @@ pub moved-aside : (from to many : ℕ) (p aside aside' q : List ℕ) → Copied 
     → Moved from to many p q
 moved-aside from to many p aside aside' q there back =
     record { same = back .same; copied = λ j h. back .copied j h ∙ there .copied j h }
+
+-- after a move, the stretch is the one that was moved
+pub cut-moved : {from to many : ℕ} {p q : List ℕ} → Moved from to many p q → from + many ≤ length p → to + many ≤ length p
+    → take many (drop to q) ≡ take many (drop from p)
+cut-moved {from} {to} {many} {p} {q} m here there =
+    cut-equal p q from to many here (omega (arith, m .same .long)) (m .copied)
 
 -- bytes cleared
 module _ (at many : ℕ) (p : List ℕ) where

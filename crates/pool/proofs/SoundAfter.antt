@@ -9,19 +9,17 @@ use native.Mathlib.Omega.{arith}
 use lib.ListN.{length}
 use Rattle.geometry.specs.Layout.{headerSize}
 use Rattle.geometry.specs.Limits.{names}
+use Rattle.lists.proofs.Froms.{joined-from}
+use Rattle.lists.proofs.Sums.{sumBelow-change}
+use Rattle.lists.specs.Items.{All}
 use Rattle.sequence.specs.Definition1.{count}
-use Rattle.sequence.specs.Items.{All}
-use Rattle.sequence.proofs.Counts.{isMark-cases}
-use Rattle.sequence.proofs.Measures.{count-additive}
+use Rattle.sequence.proofs.Counts.{isMark-cases, count-additive, all-standing}
 use Rattle.pool.specs.Bytes.{byte}
 use Rattle.pool.specs.Names.{recordOf, blocksOf, heldBlocks}
 use Rattle.pool.specs.Shares.{promisedShares, unpromisedShares}
 use Rattle.pool.specs.Sound.{ClosedName, OpenName, Distinct, Sound}
 use Rattle.pool.specs.Untouched.{Untouched}
-use Rattle.pool.proofs.Distincts.{all-standing}
-use Rattle.pool.proofs.Froms.{joined-from}
-use Rattle.pool.proofs.NamesKept.{record-kept, blocks-of-untouched, name-untouched}
-use Rattle.pool.proofs.Sums.{sumBelow-change}
+use Rattle.pool.proofs.Untouched.{record-kept, blocks-of-untouched, name-untouched}
 
 module _ (p p′ : List ℕ) (x : ℕ) (low : x < names) (sound : Sound p) (others : (y : ℕ) → y < names → (y ≡ x → ⊥) → Untouched y p p′) where
   pub held-after : (b : ℕ) → count b (heldBlocks p′) + count b (blocksOf p x) ≡ count b (heldBlocks p) + count b (blocksOf p′ x)

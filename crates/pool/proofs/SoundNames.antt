@@ -6,40 +6,52 @@ use mathlib.Core.List.{List, []}
 use mathlib.Core.Logic.{⊎-elim}
 use Prim.Native.Nat.{ℕ, _+_, _-_, _*_, _≤_, _<_}
 use native.Mathlib.Omega.{arith}
-use lib.Dec.{eqb}
+use lib.Dec.{eqb, leb}
 use lib.ListN.{length, length-append}
 use borrow.Author.Tests.{ne-eqb}
 use Rattle.geometry.specs.Layout.{kindClosed}
 use Rattle.geometry.specs.Limits.{names, marksPerShare}
 use Rattle.geometry.specs.declared.Record.{Record}
-use Rattle.sequence.specs.Alphabet.{AllBelow, sumBelow}
+use Rattle.lists.proofs.Froms.{all-from, joined-from}
+use Rattle.lists.proofs.Joins.{all-joined}
+use Rattle.lists.proofs.Sums.{sumBelow-add, sumBelow-same, sumBelow-ones, sumBelow-one, sumBelow-less}
+use Rattle.lists.specs.Froms.{from}
+use Rattle.lists.specs.Items.{AllBelow, All}
+use Rattle.lists.specs.Sums.{sumBelow}
 use Rattle.sequence.specs.Definition1.{count}
-use Rattle.sequence.specs.Items.{All}
+use Rattle.sequence.proofs.Alphabets.{counts-add-up}
 use Rattle.sequence.proofs.Edits.{length-insert}
-use Rattle.sequence.proofs.Measures.{count-additive}
+use Rattle.sequence.proofs.Counts.{count-additive}
 use Rattle.shape.specs.Blocks.{blocksT, splitsT}
 use Rattle.shape.specs.Fill.{FilledT, rootLeast}
 use Rattle.shape.specs.Depth.{DepthRule}
 use Rattle.shape.specs.Paths.{path, depthT}
 use Rattle.shape.specs.Sizes.{oneToAByte}
 use Rattle.shape.specs.Trees.{Tree, marksT, insertT}
+use Rattle.shape.proofs.Choice.{by-leb}
 use Rattle.shape.proofs.Filled.{insertT-filled}
 use Rattle.shape.proofs.Instances.{oneToAByte-proper, blocks-in-shares, depth-keeps-rule}
 use Rattle.shape.proofs.Marks.{insertT-marks}
 use Rattle.shape.proofs.Splits.{insertT-blocks}
-use Rattle.pool.specs.Bytes.{shares, from}
+use Rattle.pool.specs.Bytes.{shares}
 use Rattle.pool.specs.Names.{recordOf, treeOf, pathOf, blocksOf, heldBlocks}
 use Rattle.pool.specs.Shares.{freeBlocks, promisedShares, unpromisedShares}
 use Rattle.pool.specs.Sound.{ClosedName, OpenName, Distinct, Sound}
 use Rattle.pool.specs.Trees.{shapeAt, blocksAt}
-use Rattle.pool.proofs.Children.{length-blocksAt}
-use Rattle.pool.proofs.Distincts.{missing-and-standing}
-use Rattle.pool.proofs.Froms.{all-from, joined-from}
-use Rattle.pool.proofs.Lists.{all-joined}
 use Rattle.pool.proofs.SoundTrees.{sound-filled, sound-marks, sound-readable, sound-inside}
-use Rattle.pool.proofs.Sums.{sumBelow-one, sumBelow-less}
 use Rattle.pool.proofs.Ways.{Readable, length-entered}
 use Rattle.pool.proofs.Written.{closed-record}
+use Rattle.pool.proofs.Trees.{length-blocksAt}
+
+-- Numbers below n, none twice.
+module _ (n : ℕ) (xs : List ℕ) (distinct : Distinct xs) (below : AllBelow n xs) where
+  -- those that stand in the list and those that don't are all
+  missing-and-standing : sumBelow n (λ b. cond (leb 1 (count b xs)) 0 1) + length xs ≡ n
+  missing-and-standing =
+      let misses : ℕ → ℕ = λ b. cond (leb 1 (count b xs)) 0 1 in
+      let one : (b : ℕ) → misses b + count b xs ≡ 1
+      = λ b. by-leb (λ z. z + count b xs ≡ 1) 1 (count b xs) 0 1 (λ h. omega (arith, distinct b)) (λ h. omega arith) in
+      omega (arith, sumBelow-add n misses (λ b. count b xs), sumBelow-same n (λ b. misses b + count b xs) (λ b. 1) (λ b h. one b), sumBelow-ones n, counts-add-up n xs below)
 
 -- A closed name: all that its record says is 0, and it holds no block.
 module _ (p : List ℕ) (name : ℕ) (closed : ClosedName p name) where
@@ -53,7 +65,7 @@ module _ (p : List ℕ) (name : ℕ) (open-name : OpenName p name) where
   unfolding blocksOf
   open-blocks =
       ap (λ b. cond b [] (blocksAt p (recordOf p name .height) (recordOf p name .root)))
-      (ne-eqb (recordOf p name .kind) kindClosed (λ (e : recordOf p name .kind ≡ kindClosed). omega (arith, open-name .kind)))
+      (ne-eqb (recordOf p name .kind) kindClosed (λ (e : recordOf p name .kind ≡ kindClosed). omega (arith, open-name .entry .kind)))
 
   pub open-filled : FilledT oneToAByte (treeOf p name)
   open-filled = sound-filled p (recordOf p name .alphabet) (rootLeast (recordOf p name .height)) (recordOf p name .height) (recordOf p name .root) (open-name .root) (open-name .below)
@@ -71,7 +83,7 @@ module _ (p : List ℕ) (name : ℕ) (open-name : OpenName p name) where
 
   pub open-blocks-most : length (blocksOf p name) ≤ recordOf p name .q
   open-blocks-most =
-      omega (arith, open-length-blocks, blocks-in-shares (treeOf p name) open-filled (recordOf p name .q) (open-name .promise) (omega (arith, open-name .length, open-name .room)))
+      omega (arith, open-length-blocks, blocks-in-shares (treeOf p name) open-filled (recordOf p name .q) (open-name .entry .promise) (omega (arith, open-name .length, open-name .entry .room)))
 
   pub open-inside : All (λ b. b < shares p) (blocksOf p name)
   open-inside =
@@ -123,7 +135,7 @@ module _ (p : List ℕ) (sound : Sound p) where
       let filled : FilledT oneToAByte t = open-filled p name open-name in
       let more : length (marksT (insertT oneToAByte 0 i t)) ≡ length (marksT t) + 1 = ap length (insertT-marks oneToAByte 0 i t) ∙ length-insert 0 i (marksT t) in
       let within : blocksT (insertT oneToAByte 0 i t) ≤ recordOf p name .q
-      = blocks-in-shares (insertT oneToAByte 0 i t) (insertT-filled oneToAByte oneToAByte-proper 0 i t filled) (recordOf p name .q) (open-name .promise) (omega (arith, open-name .length)) in
+      = blocks-in-shares (insertT oneToAByte 0 i t) (insertT-filled oneToAByte oneToAByte-proper 0 i t filled) (recordOf p name .q) (open-name .entry .promise) (omega (arith, open-name .length)) in
       omega (arith, insertT-blocks oneToAByte oneToAByte-proper 0 i t filled, open-length-blocks p name open-name, name-room name low)
 
   -- and so are the shares promised to none

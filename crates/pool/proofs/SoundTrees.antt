@@ -3,8 +3,10 @@
 use mathlib.Core.List.{List}
 use Prim.Native.Nat.{ℕ, zero, suc, _≤_, _<_}
 use native.Mathlib.Omega.{arith}
-use Rattle.sequence.specs.Alphabet.{AllBelow}
-use Rattle.sequence.specs.Items.{All}
+use Rattle.lists.proofs.Froms.{all-from}
+use Rattle.lists.proofs.Joins.{all-joined, joined-map}
+use Rattle.lists.proofs.Mapped.{all-mapped}
+use Rattle.lists.specs.Items.{AllBelow, All}
 use Rattle.shape.specs.Fill.{FilledFrom, Filled, rootLeast}
 use Rattle.shape.specs.Nested.{flat}
 use Rattle.shape.specs.Sizes.{oneToAByte, least}
@@ -14,11 +16,9 @@ use Rattle.pool.specs.Blocks.{entries, link, children}
 use Rattle.pool.specs.Bytes.{shares}
 use Rattle.pool.specs.Sound.{SoundBlock, SoundBelow}
 use Rattle.pool.specs.Trees.{shapeAt, blocksAt}
-use Rattle.pool.proofs.Children.{length-shape}
-use Rattle.pool.proofs.Froms.{all-from}
-use Rattle.pool.proofs.Leaves.{length-leaf}
-use Rattle.pool.proofs.Lists.{all-joined, all-mapped, joined-map}
 use Rattle.pool.proofs.Ways.{Readable}
+use Rattle.pool.proofs.Blocks.{length-leaf}
+use Rattle.pool.proofs.Trees.{length-shape}
 
 module _ (p : List ℕ) where
   module _ (alphabet : ℕ) where

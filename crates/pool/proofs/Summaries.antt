@@ -6,13 +6,13 @@ use Prim.Native.Nat.{ℕ, zero, suc, _<_}
 use lib.ListN.{length, length-append}
 use Rattle.geometry.specs.Limits.{mostAlphabet}
 use Rattle.sequence.specs.Definition1.{count}
-use Rattle.sequence.proofs.Measures.{count-additive}
+use Rattle.sequence.proofs.Counts.{count-additive}
 use Rattle.shape.specs.Nested.{flat, marksIn}
 use Rattle.pool.specs.Blocks.{link, marksBelow, countBelow}
 use Rattle.pool.specs.Sound.{SoundBlock, SoundBelow, Tells}
 use Rattle.pool.specs.Trees.{shapeAt, ownMarks, ownCount}
-use Rattle.pool.proofs.Children.{told-all}
-use Rattle.pool.proofs.Leaves.{length-leaf}
+use Rattle.pool.proofs.Blocks.{length-leaf}
+use Rattle.pool.proofs.Trees.{told-all}
 
 module _ (p : List ℕ) (alphabet : ℕ) where
   pub own-marks : (fewest h b : ℕ) → SoundBlock p fewest h b → SoundBelow p alphabet h b → ownMarks p h b ≡ marksIn h (shapeAt p h b)

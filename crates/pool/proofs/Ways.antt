@@ -6,8 +6,9 @@ use Prim.Native.Nat.{ℕ, zero, suc, _≤_, _<_}
 use native.Mathlib.Omega.{arith}
 use lib.ListN.{length, getD, length-append}
 use Rattle.geometry.specs.Layout.{mostLeaf, mostBranch}
+use Rattle.lists.specs.Items.{All}
 use Rattle.sequence.specs.Definition1.{count}
-use Rattle.sequence.specs.Items.{All}
+use Rattle.sequence.proofs.Counts.{standing-all}
 use Rattle.shape.specs.Fill.{Within}
 use Rattle.shape.specs.Level.{seat, rest, chosen}
 use Rattle.shape.specs.Nested.{Node, flat}
@@ -16,8 +17,7 @@ use Rattle.shape.proofs.Height.{length-path}
 use Rattle.shape.proofs.Seat.{by-taker, seat-takes}
 use Rattle.pool.specs.Blocks.{entries, leafMarks, link}
 use Rattle.pool.specs.Trees.{shapeAt, blocksAt, entered, pathAt}
-use Rattle.pool.proofs.Children.{length-shape, child-shape, blocks-child}
-use Rattle.pool.proofs.Distincts.{standing-all}
+use Rattle.pool.proofs.Trees.{length-shape, child-shape, blocks-child}
 
 -- every block of the tree has no more entries than fit, and a branch has a child
 abbrev pub Readable : List ℕ → ℕ → ℕ → Type 0

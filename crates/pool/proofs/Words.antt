@@ -3,7 +3,9 @@ use mathlib.Core.Path.{_≡_, ap₂}
 use mathlib.Core.List.{List}
 use Prim.Native.Nat.{ℕ, _+_, _*_, _/_, _%_, _≤_, _<_}
 use native.Mathlib.Omega.{arith}
+use lib.ListN.{take, drop}
 use Rattle.geometry.specs.Layout.{wordSize}
+use Rattle.lists.proofs.Cuts.{cut-getD}
 use Rattle.pool.specs.Bytes.{byte, word}
 use Rattle.pool.specs.Words.{Wide, WordAt}
 
@@ -41,3 +43,9 @@ word-of-bytes p at low high l h = record { is = omega arith; small = omega arith
 pub word-is : (p : List ℕ) (at value : ℕ) → byte p at ≡ value % 256 → byte p (at + 1) ≡ value / 256 → word p at ≡ value
 unfolding word
 word-is p at value low high = omega arith
+
+-- a word of a stretch
+pub cut-word : (p : List ℕ) (a n i : ℕ) → i + wordSize ≤ n → word (take n (drop a p)) i ≡ word p (a + i)
+cut-word p a n i h =
+    let next : a + i + 1 ≡ a + (i + 1) = omega arith in
+    word-same p (take n (drop a p)) (a + i) i (cut-getD p a n i (omega arith)) (rw next (cut-getD p a n (i + 1) (omega arith)))

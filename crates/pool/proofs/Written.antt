@@ -14,7 +14,7 @@ use Rattle.pool.specs.Records.{PutFields, PutRecord}
 use Rattle.pool.specs.Sound.{ClosedName}
 use Rattle.pool.specs.Words.{WordAt, PutByte, PutWord, Cleared}
 use Rattle.pool.proofs.Words.{word-zero, low-zero, high-zero, word-in-stretch}
-use Rattle.pool.proofs.Changed.{outside-then, outside-wider, word-before}
+use Rattle.pool.proofs.Changes.{outside-then, outside-wider, word-before}
 
 -- a record by what its bytes and words are
 pub record-is : (p : List ℕ) (name : ℕ) (put : Record)

@@ -3,7 +3,8 @@ use mathlib.Core.List.{List}
 use Prim.Native.Nat.{ℕ, _+_, _*_}
 use lib.ListN.{take, drop}
 use Rattle.geometry.specs.Layout.{formAt, countAt, entrySize, entryMarksAt, entryCountsAt, wordSize}
-use Rattle.pool.specs.Bytes.{byte, word, blockAt, from}
+use Rattle.lists.specs.Froms.{from}
+use Rattle.pool.specs.Bytes.{byte, word, blockAt}
 
 -- the form that a block says of itself
 abbrev pub formOf : List ℕ → ℕ → ℕ

@@ -1,6 +1,6 @@
 -- Bytes and words of a pool, and where its records and blocks stand.
-use mathlib.Core.List.{List, [], _∷_}
-use Prim.Native.Nat.{ℕ, zero, suc, _+_, _-_, _*_, _/_}
+use mathlib.Core.List.{List}
+use Prim.Native.Nat.{ℕ, _+_, _-_, _*_, _/_}
 use lib.ListN.{length, getD}
 use Rattle.geometry.specs.Layout.{headerSize, recordSize}
 use Rattle.geometry.specs.Limits.{blockSize, directorySize}
@@ -24,8 +24,3 @@ recordAt name = headerSize + recordSize * name
 -- where a block stands
 abbrev pub blockAt : ℕ → ℕ
 blockAt b = directorySize + blockSize * b
-
--- what f gives for so many numbers, from k on
-unfoldable pub from : {A : Type 0} → (ℕ → A) → ℕ → ℕ → List A
-from f k zero = []
-from f k (suc many) = f k ∷ from f (suc k) many

@@ -5,9 +5,10 @@ use Prim.Native.Nat.{ℕ}
 use lib.Dec.{eqb}
 use Rattle.geometry.specs.Layout.{kindClosed}
 use Rattle.geometry.specs.Limits.{names}
+use Rattle.lists.specs.Froms.{from}
 use Rattle.protocol.specs.State.{Part, State, closed, opened}
 use Rattle.shape.specs.Trees.{Tree}
-use Rattle.pool.specs.Bytes.{shares, from}
+use Rattle.pool.specs.Bytes.{shares}
 use Rattle.pool.specs.Names.{recordOf, treeOf}
 
 -- a name's part

@@ -6,9 +6,10 @@ use lib.Dec.{eqb}
 use Rattle.geometry.specs.Layout.{kindAt, alphabetAt, heightAt, qAt, rootAt, lengthAt, kindClosed}
 use Rattle.geometry.specs.Limits.{names}
 use Rattle.geometry.specs.declared.Record.{Record}
-use Rattle.shape.specs.Nested.{joined}
+use Rattle.lists.specs.Froms.{from}
+use Rattle.lists.specs.Joins.{joined}
 use Rattle.shape.specs.Trees.{Tree}
-use Rattle.pool.specs.Bytes.{byte, word, recordAt, from}
+use Rattle.pool.specs.Bytes.{byte, word, recordAt}
 use Rattle.pool.specs.Trees.{treeAt, blocksAt, pathAt}
 
 -- the record of a name

@@ -4,7 +4,7 @@ use mathlib.Core.List.{List}
 use Prim.Native.Nat.{ℕ, _-_}
 use lib.Dec.{leb}
 use Rattle.geometry.specs.Limits.{names}
-use Rattle.sequence.specs.Alphabet.{sumBelow}
+use Rattle.lists.specs.Sums.{sumBelow}
 use Rattle.sequence.specs.Definition1.{count}
 use Rattle.pool.specs.Bytes.{shares}
 use Rattle.pool.specs.Names.{recordOf, heldBlocks}

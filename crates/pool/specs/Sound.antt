@@ -6,7 +6,7 @@ use Prim.Native.Nat.{ℕ, zero, suc, _+_, _*_, _%_, _≤_, _<_}
 use lib.ListN.{length}
 use Rattle.geometry.specs.Layout as Layout
 use Rattle.geometry.specs.Limits.{blockSize, shortestPool, longestPool, names, leastAlphabet, mostAlphabet, marksPerShare}
-use Rattle.sequence.specs.Alphabet.{AllBelow}
+use Rattle.lists.specs.Items.{AllBelow}
 use Rattle.sequence.specs.Definition1.{count}
 use Rattle.shape.specs.Fill.{rootLeast}
 use Rattle.shape.specs.Nested.{flat, marksIn}
@@ -51,8 +51,8 @@ SoundBelow p alphabet (suc h) b =
 abbrev pub ClosedName : List ℕ → ℕ → Type 0
 ClosedName p name = (j : ℕ) → j < Layout.recordSize → byte p (recordAt name + j) ≡ 0
 
--- an open name's record and tree
-pub record OpenName (p : List ℕ) (name : ℕ) : Type 0 where
+-- an open name's record, its tree aside
+pub record OpenRecord (p : List ℕ) (name : ℕ) : Type 0 where
   pub kind : recordOf p name .kind ≡ Layout.kindMarks
   pub alphabetLeast : leastAlphabet ≤ recordOf p name .alphabet
   pub alphabetMost : recordOf p name .alphabet ≤ mostAlphabet
@@ -60,10 +60,14 @@ pub record OpenName (p : List ℕ) (name : ℕ) : Type 0 where
   pub height : recordOf p name .height ≤ Layout.mostHeight
   pub zeroByte : byte p (recordAt name + Layout.zeroAt) ≡ 0
   pub spare : (j : ℕ) → Layout.spareAt ≤ j → j < Layout.recordSize → byte p (recordAt name + j) ≡ 0
+  pub room : recordOf p name .length ≤ marksPerShare * recordOf p name .q
+
+-- an open name's record and tree
+pub record OpenName (p : List ℕ) (name : ℕ) : Type 0 where
+  pub entry : OpenRecord p name
   pub root : SoundBlock p (rootLeast (recordOf p name .height)) (recordOf p name .height) (recordOf p name .root)
   pub below : SoundBelow p (recordOf p name .alphabet) (recordOf p name .height) (recordOf p name .root)
   pub length : recordOf p name .length ≡ marksIn (recordOf p name .height) (shapeAt p (recordOf p name .height) (recordOf p name .root))
-  pub room : recordOf p name .length ≤ marksPerShare * recordOf p name .q
 
 -- no number stands twice in the list
 abbrev pub Distinct : List ℕ → Type 0

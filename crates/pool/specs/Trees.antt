@@ -2,9 +2,10 @@
 use mathlib.Core.List.{List, [], _∷_, map}
 use Prim.Native.Nat.{ℕ, zero, suc}
 use lib.ListN.{length}
-use Rattle.sequence.specs.Alphabet.{sumBelow}
+use Rattle.lists.specs.Joins.{joined}
+use Rattle.lists.specs.Sums.{sumBelow}
 use Rattle.sequence.specs.Definition1.{count}
-use Rattle.shape.specs.Nested.{Node, joined}
+use Rattle.shape.specs.Nested.{Node}
 use Rattle.shape.specs.Paths.{path}
 use Rattle.shape.specs.Trees.{Tree}
 use Rattle.pool.specs.Blocks.{entries, leafMarks, link, marksBelow, countBelow, children}

@@ -4,7 +4,7 @@ use mathlib.Core.List.{List}
 use Prim.Native.Nat.{ℕ, _+_, _<_}
 use lib.ListN.{length}
 use Rattle.geometry.specs.Layout.{recordSize}
-use Rattle.sequence.specs.Items.{All}
+use Rattle.lists.specs.Items.{All}
 use Rattle.pool.specs.Bytes.{byte, recordAt}
 use Rattle.pool.specs.Changes.{SameBlock}
 use Rattle.pool.specs.Names.{blocksOf}

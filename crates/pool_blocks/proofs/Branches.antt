@@ -8,18 +8,20 @@ use lib.ListN.{length, getD, take, drop, length-append}
 use lib.Seq.{length-take-le, take-at, drop-append-add, set-split}
 use Rattle.geometry.specs.Layout.{countAt, entrySize, entryMarksAt, entryCountsAt, wordSize, mostBranch}
 use Rattle.geometry.specs.Limits.{mostAlphabet}
+use Rattle.lists.proofs.Cuts.{cut-length}
+use Rattle.lists.proofs.Froms.{length-from, getD-from-start, from-same, from-set, map-from}
+use Rattle.lists.specs.Froms.{from}
+use Rattle.lists.proofs.Chunks.{chunks, chunks-from, chunks-one, chunks-append, chunks-take, chunks-drop}
 use Rattle.shape.specs.Level.{middle, halves}
 use Rattle.shape.proofs.Choice.{by-leb}
 use Rattle.pool.specs.Blocks.{entries, entryAt, link, marksBelow, countBelow, children}
-use Rattle.pool.specs.Bytes.{word, shares, blockAt, from}
+use Rattle.pool.specs.Bytes.{word, shares, blockAt}
 use Rattle.pool.specs.Changes.{Outside}
-use Rattle.pool.proofs.Changed.{word-behind}
-use Rattle.pool.proofs.Cuts.{cut-length, cut-word, cut-before, cut-behind}
+use Rattle.pool.proofs.Changes.{word-behind, cut-before, cut-behind}
+use Rattle.pool.proofs.Words.{cut-word}
 use Rattle.pool_blocks.specs.Contents.{contents, entryBytes, entryList, linkIn, belowIn, countIn, BranchAt}
 use Rattle.pool_blocks.specs.Moves.{Opened, Closed, CutOff, Joined, SharedOut}
 use Rattle.pool_blocks.specs.Branches.{EntryOpened, EntryRemoved, BranchCut, BranchesJoined, BranchesShared}
-use Rattle.pool_blocks.proofs.Chunks.{chunks, chunks-from, chunks-one, chunks-append, chunks-take, chunks-drop}
-use Rattle.pool.proofs.Froms.{length-from, getD-from-start, from-same, from-set, map-from}
 
 -- what an entry's bytes say is what the block says
 

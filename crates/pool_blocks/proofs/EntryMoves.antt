@@ -1,7 +1,7 @@
 -- A move of entries: the bytes that it moves, and that each move of an edit has entries to move and room for them.
 use mathlib.Core.Path.{_≡_}
 use mathlib.Core.List.{List}
-use Prim.Native.Nat.{ℕ, _+_, _-_, _*_, _≤_, _<_, min, max}
+use Prim.Native.Nat.{ℕ, _+_, _-_, _≤_, _<_, min, max}
 use native.Mathlib.Omega.{arith}
 use Rattle.geometry.specs.Layout.{countAt}
 use Rattle.shape.proofs.Choice.{by-leb}
@@ -10,7 +10,7 @@ use Rattle.pool.specs.Bytes.{shares, blockAt}
 use Rattle.pool.specs.Words.{PutWord, Moved}
 use Rattle.pool_entries.specs.Summaries.{Is}
 use Rattle.pool_blocks.specs.Contents.{Room, Movable, Apart, Counted}
-use Rattle.pool_blocks.proofs.Products.{room-fewer}
+use Rattle.pool_blocks.proofs.Contents.{room-fewer}
 
 module _ {p q : List ℕ} where
   -- the same move by other names of its numbers

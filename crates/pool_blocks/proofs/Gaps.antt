@@ -7,18 +7,19 @@ use native.Mathlib.Omega.{arith}
 use lib.ListN.{length, take, drop}
 use lib.Seq.{take-take, take-at, drop-at, drop-append-seam}
 use Rattle.geometry.specs.Layout.{formAt, countAt}
+use Rattle.lists.proofs.Cuts.{cut-length, cut-two, drop-stretch, cut-three}
 use Rattle.pool.specs.Blocks.{formOf, entries}
 use Rattle.pool.specs.Bytes.{shares, blockAt}
 use Rattle.pool.specs.Changes.{Outside, Only}
 use Rattle.pool.specs.Words.{PutWord, Moved}
-use Rattle.pool.proofs.Changed.{only-block, only-then, word-behind}
-use Rattle.pool.proofs.Cuts.{cut-length, cut-before, cut-behind, cut-moved, cut-two}
 use Rattle.pool_entries.specs.Summaries.{Is}
 use Rattle.pool_blocks.specs.Contents.{contents, Room}
 use Rattle.pool_blocks.specs.Moves.{Opened, Closed}
-use Rattle.pool_blocks.proofs.Products.{Measured, measured}
 use Rattle.pool_blocks.proofs.EntryMoves.{moved-as}
-use Rattle.pool_blocks.proofs.Stretches.{drop-stretch, cut-three, contents-is}
+use Rattle.pool.specs.Words.{PutWord, Moved}
+use Rattle.pool.proofs.Changes.{only-block, only-then, word-behind, cut-before, cut-behind}
+use Rattle.pool.proofs.Moves.{cut-moved}
+use Rattle.pool_blocks.proofs.Contents.{Measured, measured, contents-is}
 
 -- a move within a block's entries, and then another count
 module _ (b from to bytes put : ℕ) (p q r : List ℕ) (low : blockAt b ≤ to) (high : to + bytes ≤ blockAt b + formAt)

@@ -7,16 +7,18 @@ use native.Mathlib.Omega.{arith}
 use lib.ListN.{length, take, drop, length-append}
 use Rattle.geometry.specs.Layout.{formAt, countAt, mostLeaf}
 use Rattle.geometry.specs.Limits.{blockSize}
+use Rattle.lists.proofs.Cuts.{cut-length, cut-getD, cut-one}
 use Rattle.sequence.specs.Definition1.{access, select, insert, delete}
 use Rattle.shape.specs.Level.{middle, halves}
 use Rattle.pool.specs.Blocks.{entries, leafMarks}
 use Rattle.pool.specs.Bytes.{byte, blockAt}
 use Rattle.pool.specs.Changes.{Outside}
 use Rattle.pool.specs.Words.{byteLimit, addressLimit, PutByte}
-use Rattle.pool.proofs.Changed.{only-block, only-then, word-behind}
-use Rattle.pool.proofs.Cuts.{cut-length, cut-byte, cut-one}
 use Rattle.pool_entries.specs.Summaries.{Is}
 use Rattle.pool_blocks.specs.Contents.{contents, Room, LeafAt}
+use Rattle.pool.specs.Words.{PutByte}
+use Rattle.pool.proofs.Changes.{only-block, only-then, word-behind}
+use Rattle.pool_blocks.specs.Contents.{contents, LeafAt}
 use Rattle.pool_blocks.specs.Moves.{Opened, Closed, CutOff, Joined, SharedOut}
 use Rattle.pool_blocks.specs.Leaves.{MarkInserted, MarkDeleted, LeafCut, LeavesJoined, LeavesShared}
 use Rattle.pool_blocks.proofs.Gaps.{gap-filled}
@@ -65,7 +67,7 @@ module _ (p : List ℕ) (b : ℕ) (leaf : LeafAt p b) where
   module _ (at : ℕ) (place : at ≡ blockAt b) where
     pub mark-is : (i : ℕ) → 1 ≤ i → i ≤ length (leafMarks p b) → byte p (at + (i - 1)) ≡ access (leafMarks p b) i
     unfolding leafMarks access
-    mark-is i one within = rw place (sym (cut-byte p (blockAt b) (entries p b) (i - 1) (omega (arith, leaf-size))))
+    mark-is i one within = rw place (sym (cut-getD p (blockAt b) (entries p b) (i - 1) (omega (arith, leaf-size))))
 
     pub found-is : (n c j r : ℕ) → Is (entries p b) n → r ≡ select c (take (at + n - at) (drop at p)) j → r ≡ select c (leafMarks p b) j
     unfolding leafMarks

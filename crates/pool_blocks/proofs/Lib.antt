@@ -1,10 +1,8 @@
-pub mod Products
+pub mod Contents
 pub mod EntryMoves
-pub mod Stretches
 pub mod Gaps
 pub mod Parts
 pub mod Shares
 pub mod Leaves
-pub mod Chunks
 pub mod Branches
 pub mod Scans

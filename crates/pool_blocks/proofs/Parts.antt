@@ -9,19 +9,20 @@ use lib.ListN.{take, drop}
 use lib.Seq.{take-take}
 use Rattle.geometry.specs.Layout.{formAt, countAt, formMarks}
 use Rattle.geometry.specs.Limits.{blockSize}
+use Rattle.lists.proofs.Cuts.{cut-two, drop-stretch}
 use Rattle.pool.specs.Blocks.{entries}
 use Rattle.pool.specs.Bytes.{shares, blockAt}
 use Rattle.pool.specs.Changes.{Only}
 use Rattle.pool.specs.Words.{PutByte, PutWord, Moved}
-use Rattle.pool.proofs.Changed.{outside-then, outside-wider, only-block, only-then, only-wider, word-other}
-use Rattle.pool.proofs.Cuts.{cut-before, cut-moved, cut-two}
 use Rattle.pool_entries.specs.Summaries.{Is}
 use Rattle.pool_blocks.specs.Contents.{contents, Room, Apart}
 use Rattle.pool_blocks.specs.Moves.{PutTrailer, Emptied, CutOff, Joined}
-use Rattle.pool_blocks.proofs.Products.{Measured, measured}
 use Rattle.pool_blocks.proofs.EntryMoves.{moved-as}
-use Rattle.pool_blocks.proofs.Stretches.{drop-stretch, contents-is, start-other}
+use Rattle.pool.specs.Words.{PutByte, PutWord, Moved}
+use Rattle.pool.proofs.Changes.{outside-then, outside-wider, only-block, only-then, only-wider, word-other, cut-before}
+use Rattle.pool.proofs.Moves.{cut-moved}
 use Rattle.pool_blocks.proofs.Gaps.{moved-only, moved-form}
+use Rattle.pool_blocks.proofs.Contents.{Measured, measured, contents-is, start-other}
 
 -- form and count make a trailer
 pub trailer-put : (b at many : ℕ) (p q r : List ℕ) → at ≡ blockAt b → PutByte (at + formAt) formMarks p q

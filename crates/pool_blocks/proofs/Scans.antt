@@ -9,6 +9,7 @@ use native.Mathlib.Omega.{arith}
 use lib.ListN.{length, take, drop, length-take}
 use lib.Seq.{take-take}
 use Rattle.geometry.specs.Limits.{blockSize}
+use Rattle.lists.proofs.Cuts.{cut-length, cut-two}
 use Rattle.sequence.specs.Definition1.{isMark, count, rank, select}
 use Rattle.sequence.proofs.Counts.{isMark-same, isMark-other, count-take-le}
 use Rattle.sequence.proofs.Ranks.{count-stretch-step}
@@ -17,7 +18,6 @@ use Rattle.sequence.proofs.Selects.{select-le-length}
 use Rattle.pool.specs.Blocks.{entries, leafMarks}
 use Rattle.pool.specs.Bytes.{byte, blockAt}
 use Rattle.pool.specs.Words.{byteLimit, addressLimit}
-use Rattle.pool.proofs.Cuts.{cut-length, cut-two}
 use Rattle.pool_entries.specs.Summaries.{Is}
 use Rattle.pool_blocks.specs.Contents.{LeafAt}
 use Rattle.pool_blocks.proofs.Leaves.{leaf-size, found-is}

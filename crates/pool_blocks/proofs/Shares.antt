@@ -8,17 +8,21 @@ use native.Mathlib.Omega.{arith}
 use lib.ListN.{length, take, drop}
 use lib.Seq.{take-take, take-append-le, take-append-add, drop-append-le, drop-append-add}
 use Rattle.geometry.specs.Layout.{formAt, countAt}
+use Rattle.lists.proofs.Cuts.{cut-length, cut-two, drop-stretch}
 use Rattle.pool.specs.Blocks.{formOf, entries}
 use Rattle.pool.specs.Bytes.{blockAt}
 use Rattle.pool.specs.Changes.{Only}
 use Rattle.pool.specs.Words.{PutWord, Moved}
-use Rattle.pool.proofs.Changed.{only-block, only-then, only-wider, word-other}
-use Rattle.pool.proofs.Cuts.{cut-length, cut-before, cut-behind, cut-moved, cut-two}
 use Rattle.pool_entries.specs.Summaries.{Is}
 use Rattle.pool_blocks.specs.Contents.{contents, Room, Apart, Counted}
 use Rattle.pool_blocks.specs.Moves.{Refilled, Recut, SharedOut}
 use Rattle.pool_blocks.proofs.EntryMoves.{moved-as, room-between}
-use Rattle.pool_blocks.proofs.Stretches.{drop-stretch, contents-is, start-other, stretch-other}
+use Rattle.pool.specs.Words.{PutWord, Moved}
+use Rattle.pool.proofs.Changes.{only-block, only-then, only-wider, word-other, cut-before, cut-behind}
+use Rattle.pool.proofs.Moves.{cut-moved}
+use Rattle.pool_blocks.specs.Contents.{contents, Room, Counted}
+use Rattle.pool_blocks.specs.Moves.{Recut, SharedOut}
+use Rattle.pool_blocks.proofs.Contents.{contents-is, start-other, stretch-other}
 
 -- the entries of two blocks in a row
 module _ (p : List ℕ) (a l a' r : ℕ) (inside : a + l ≤ length p) (inside' : a' + r ≤ length p) where

@@ -4,8 +4,9 @@ use mathlib.Core.List.{List}
 use Prim.Native.Nat.{ℕ, _+_, _*_, _≤_, _<_}
 use lib.ListN.{take, drop}
 use Rattle.geometry.specs.Layout.{formAt, entrySize, entryMarksAt, entryCountsAt, wordSize, mostLeaf, mostBranch}
+use Rattle.lists.specs.Froms.{from}
 use Rattle.pool.specs.Blocks.{entries, entryAt}
-use Rattle.pool.specs.Bytes.{word, shares, blockAt, from}
+use Rattle.pool.specs.Bytes.{word, shares, blockAt}
 
 -- the bytes of a block's entries, unit bytes each: 1 in a leaf, an entry's size in a branch
 unfoldable pub contents : ℕ → List ℕ → ℕ → List ℕ

@@ -6,12 +6,12 @@ use Prim.Native.Nat.{ℕ, zero, suc, _+_, _≤_, _<_}
 use native.Mathlib.Omega.{arith}
 use lib.ListN.{length, getD, replicate}
 use Rattle.geometry.specs.Limits.{directorySize, longestPool, names, mostShares}
+use Rattle.lists.proofs.Items.{all-map}
+use Rattle.lists.specs.Items.{AllBelow}
 use Rattle.pool.specs.Bytes.{shares}
 use Rattle.pool.specs.Names.{blocksOf, heldBlocks}
 use Rattle.pool.specs.Shares.{promisedShares}
 use Rattle.pool.specs.Sound.{LengthAllowed, SoundHeader, Distinct, Sound}
-use Rattle.sequence.proofs.Items.{all-map}
-use Rattle.sequence.specs.Alphabet.{AllBelow}
 use Rattle.pool_check.specs.Walks.{New, mapTo, WalkedNames}
 use Rattle.pool_check.specs.Parts.{SoundName, Checked}
 use Rattle.pool_check.specs.Says.{Says}

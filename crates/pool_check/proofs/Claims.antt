@@ -5,59 +5,30 @@ use mathlib.Core.Bool.{Bool, true, false}
 use mathlib.Core.List.{List}
 use mathlib.Core.Logic.{inl, inr, ⊎-elim}
 use mathlib.Core.Path.{_≡_, refl, sym, ap, _∙_}
-use Prim.Native.Nat.{ℕ, zero, suc, _+_, _-_, _≤_, _<_}
-use native.Mathlib.Nat.{eq-zero-or-pos, eq-or-lt-of-le, le-of-suc-le-suc}
+use Prim.Native.Nat.{ℕ, suc, _+_, _-_, _≤_, _<_}
+use native.Mathlib.Nat.{eq-zero-or-pos, eq-or-lt-of-le}
 use native.Mathlib.Numerals.{add-one}
 use native.Mathlib.Omega.{arith}
 use borrow.Author.Count.{below-none, below-more}
 use lib.Dec.{eqb}
 use lib.ListN.{length, take}
 use lib.Seq.{take-all}
+use Rattle.lists.proofs.Items.{all-map}
+use Rattle.lists.proofs.Sums.{sumBelow-same, sumBelow-tight, sumBelow-short, sumBelow-grows}
+use Rattle.lists.specs.Items.{AllBelow}
+use Rattle.lists.specs.Sums.{sumBelow}
+use Rattle.sequence.proofs.Counts.{all-standing}
 use Rattle.pool_entries.specs.Summaries.{Is}
 use Rattle.geometry.specs.Layout.{mostLeaf}
 use Rattle.geometry.specs.Limits.{blockSize, mostAlphabet}
 use Rattle.pool.specs.Blocks.{entries, leafMarks, marksBelow, countBelow}
 use Rattle.pool.specs.Bytes.{shares}
-use Rattle.pool.proofs.Distincts.{all-standing}
-use Rattle.pool.proofs.Sums.{sumBelow-same}
 use Rattle.sequence.proofs.Alphabets.{counts-add-up, counts-at-most, allBelow-of-counts}
-use Rattle.sequence.proofs.Items.{all-map}
-use Rattle.sequence.specs.Alphabet.{AllBelow, sumBelow}
 use Rattle.sequence.specs.Definition1.{count}
 use Rattle.pool_check.specs.Parts.{Matches, Padded, Claim}
 use Rattle.pool_check.specs.Says.{Says}
 use Rattle.pool_check.proofs.Deciding.{say-yes, say-no, say-same, say-equal, denied}
 use Rattle.pool_check.proofs.Leaves.{length-marks}
-
--- Sums of numbers that are no larger, one by one.
-sum-most : (f g : ℕ → ℕ) (n : ℕ) → ((c : ℕ) → c < n → f c ≤ g c) → sumBelow n f ≤ sumBelow n g
-unfolding sumBelow
-sum-most f g zero low = omega arith
-sum-most f g (suc n) low = omega (arith, sum-most f g n (λ c l. low c (omega arith)), low n (omega arith))
-
--- where the sums are as large, so is each number
-sum-tight : (f g : ℕ → ℕ) (n : ℕ) → ((c : ℕ) → c < n → f c ≤ g c) → sumBelow n g ≤ sumBelow n f → (c : ℕ) → c < n → f c ≡ g c
-unfolding sumBelow
-sum-tight f g zero low over c l = absurd (omega arith)
-sum-tight f g (suc n) low over c l =
-    let rest : sumBelow n f ≤ sumBelow n g = sum-most f g n (λ d m. low d (omega arith)) in
-    let last : f n ≤ g n = low n (omega arith) in
-    ⊎-elim (λ (e : c ≡ n). rw e (omega arith)) (λ (m : c < n). sum-tight f g n (λ d o. low d (omega arith)) (omega arith) c m) (eq-or-lt-of-le (le-of-suc-le-suc l))
-
--- numbers past m that are 0 add nothing
-sum-short : (f : ℕ → ℕ) (m n : ℕ) → m ≤ n → ((c : ℕ) → m ≤ c → c < n → f c ≡ 0) → sumBelow m f ≡ sumBelow n f
-unfolding sumBelow
-sum-short f m zero low none = let e : m ≡ 0 = omega arith in rw e refl
-sum-short f m (suc n) low none =
-    ⊎-elim (λ (e : m ≡ suc n). rw e refl)
-    (λ (l : m < suc n). omega (arith, sum-short f m n (omega arith) (λ c a o. none c a (omega arith)), none n (omega arith) (omega arith))) (eq-or-lt-of-le low)
-
--- a sum grows with its numbers
-sum-grows : (f : ℕ → ℕ) (m n : ℕ) → m ≤ n → sumBelow m f ≤ sumBelow n f
-unfolding sumBelow
-sum-grows f m zero low = let e : m ≡ 0 = omega arith in rw e (omega arith)
-sum-grows f m (suc n) low =
-    ⊎-elim (λ (e : m ≡ suc n). rw e (omega arith)) (λ (l : m < suc n). omega (arith, sum-grows f m n (omega arith))) (eq-or-lt-of-le low)
 
 -- What is left of a sum after its first numbers.
 pub left-all : (f : ℕ → ℕ) (n sum many : ℕ) → sum ≡ sumBelow n f → sum ≡ many → many + sumBelow 0 f ≡ sumBelow n f
@@ -81,7 +52,7 @@ module _ (f : ℕ → ℕ) (n c left : ℕ) (rest : left + sumBelow c f ≡ sumB
     next-sum = rw add-one refl
 
     pub left-enough : (value : ℕ) → Is (f c) value → value ≤ left
-    left-enough value read = omega (arith, read .is, next-sum, sum-grows f (c + 1) n next-left)
+    left-enough value read = omega (arith, read .is, next-sum, sumBelow-grows f (c + 1) n next-left)
 
     pub left-next : (value : ℕ) → Is (f c) value → left - value + sumBelow (c + 1) f ≡ sumBelow n f
     left-next value read = omega (arith, read .is, next-sum, left-enough value read)
@@ -89,7 +60,7 @@ module _ (f : ℕ → ℕ) (n c left : ℕ) (rest : left + sumBelow c f ≡ sumB
   -- where nothing is left the other numbers are 0
   none-left : left ≡ 0 → (d : ℕ) → c ≤ d → d < n → f d ≡ 0
   unfolding sumBelow
-  none-left none d past within = omega (arith, sum-grows f c d past, sum-grows f (suc d) n within)
+  none-left none d past within = omega (arith, sumBelow-grows f c d past, sumBelow-grows f (suc d) n within)
 
 -- One claim.
 module _ (marks : List ℕ) (alphabet c told : ℕ) where
@@ -170,7 +141,7 @@ module _ (p : List ℕ) (b k leaf alphabet : ℕ) where
 
         counts-of : (d : ℕ) → d < mostAlphabet → countBelow p b k d ≡ count d (leafMarks p leaf)
         counts-of =
-            sum-tight (countBelow p b k) (λ d. count d (leafMarks p leaf)) mostAlphabet
+            sumBelow-tight (countBelow p b k) (λ d. count d (leafMarks p leaf)) mostAlphabet
             (λ d l. ⊎-elim (λ none. omega arith) (λ w. omega (arith, w .0)) (every d l))
             (omega (arith, counts-at-most mostAlphabet (leafMarks p leaf), long))
 
@@ -183,7 +154,7 @@ module _ (p : List ℕ) (b k leaf alphabet : ℕ) where
             allBelow-of-counts alphabet (leafMarks p leaf)
             (omega (
               arith,
-              sum-short (λ d. count d (leafMarks p leaf)) alphabet mostAlphabet low past,
+              sumBelow-short (λ d. count d (leafMarks p leaf)) alphabet mostAlphabet low past,
               sumBelow-same mostAlphabet (countBelow p b k) (λ d. count d (leafMarks p leaf)) counts-of,
               long,
             ))

@@ -1,18 +1,17 @@
 -- Answers that decide a statement exactly.
-use mathlib.Core.Bool.{Bool, true, false}
-use mathlib.Core.Path.{_≡_, refl}
+use mathlib.Core.Bool.{Bool, true, false, false≢true}
+use mathlib.Core.Path.{_≡_, refl, sym, _∙_}
 use Prim.Native.Nat.{ℕ, _≤_}
-use native.Mathlib.Omega.{arith}
 use lib.Dec.{eqb, leb}
 use borrow.Author.Tests.{eq-eqb, eqb-true, le-leb, leb-true}
 use Rattle.pool_check.specs.Says.{Says}
 
 -- false is not true
 pub never : {A : Type 0} → false ≡ true → A
-never e = absurd (let z : _≡_ {A = ℕ} 0 1 = cc in omega arith)
+never e = absurd (false≢true e)
 
 pub not-both : (r : Bool) → r ≡ true → r ≡ false → ⊥
-not-both r so not = let z : _≡_ {A = ℕ} 0 1 = cc in omega arith
+not-both r so not = false≢true (sym not ∙ so)
 
 module _ {A : Type 0} where
   pub say-yes : A → Says true A

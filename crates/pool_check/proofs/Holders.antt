@@ -9,15 +9,15 @@ use native.Mathlib.Omega.{arith}
 use borrow.Author.Tests.{leb-false}
 use lib.ListN.{length, getD}
 use Rattle.geometry.specs.Limits.{names}
+use Rattle.lists.proofs.Froms.{joined-from}
+use Rattle.lists.proofs.Sums.{sumBelow-one, sumBelow-grows}
+use Rattle.lists.specs.Items.{AllBelow}
+use Rattle.lists.specs.Sums.{sumBelow}
 use Rattle.pool.specs.Bytes.{shares}
 use Rattle.pool.specs.Names.{blocksOf, heldBlocks}
 use Rattle.pool.specs.Sound.{Distinct}
-use Rattle.pool.proofs.Distincts.{all-standing}
-use Rattle.pool.proofs.Froms.{joined-from}
 use Rattle.pool.proofs.SoundNames.{closed-blocks, open-inside}
-use Rattle.pool.proofs.Sums.{sumBelow-one, sumBelow-two}
-use Rattle.sequence.proofs.Measures.{count-additive}
-use Rattle.sequence.specs.Alphabet.{AllBelow, sumBelow}
+use Rattle.sequence.proofs.Counts.{count-additive, all-standing}
 use Rattle.sequence.specs.Definition1.{count}
 use Rattle.pool_holders.specs.Maps.{MapOf}
 use Rattle.pool_check.specs.Walks.{New, mapTo}
@@ -25,7 +25,7 @@ use Rattle.pool_check.specs.Parts.{SoundName}
 use Rattle.pool_check.proofs.Marked.{meet-length, meet-other, meet-same, new-clear, new-distinct, distinct-new}
 
 -- how often a block stands among those of the names below n
-abbrev pub times : List ℕ → ℕ → ℕ → ℕ
+abbrev times : List ℕ → ℕ → ℕ → ℕ
 times p b n = sumBelow n (λ name. count b (blocksOf p name))
 
 pub times-held : (p : List ℕ) (b : ℕ) → count b (heldBlocks p) ≡ times p b names
@@ -98,14 +98,9 @@ module _ (p map : List ℕ) (clear : (b : ℕ) → getD map b 0 ≡ 0) where
 
     earlier : (n name b : ℕ) → n ≤ name → name < names → 1 ≤ count b (blocksOf p name) → times p b n ≡ 0
     unfolding sumBelow
-    earlier zero name b low high some = refl
-    earlier (suc n) name b low high some =
-        omega (
-          arith,
-          earlier n name b (omega arith) high some,
-          once b,
-          sumBelow-two names (λ x. count b (blocksOf p x)) n name (omega arith) high (λ (e : n ≡ name). omega arith),
-        )
+    earlier n name b low high some =
+        let stands : ℕ → ℕ = λ x. count b (blocksOf p x) in
+        omega (arith, once b, sumBelow-grows stands n name low, sumBelow-grows stands (suc name) names high)
 
     pub apart-new : (name : ℕ) → name < names → New (name + 1) (mapTo p map name) (blocksOf p name)
     apart-new name low =

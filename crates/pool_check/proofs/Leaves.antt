@@ -6,13 +6,13 @@ use Prim.Native.Nat.{ℕ, zero, suc, _+_, _≤_, _<_}
 use native.Mathlib.Omega.{arith}
 use borrow.Author.Count.{below-none, below-more}
 use lib.ListN.{length, drop, length-take, length-drop}
+use Rattle.lists.proofs.Items.{allBelow-getD, allBelow-from-getD}
+use Rattle.lists.specs.Items.{AllBelow}
+use Rattle.pool.proofs.Blocks.{block-inside, leaf-mark}
 use Rattle.pool_entries.specs.Summaries.{Is}
 use Rattle.geometry.specs.Layout.{mostLeaf}
 use Rattle.pool.specs.Blocks.{entries, leafMarks}
 use Rattle.pool.specs.Bytes.{byte, shares, blockAt}
-use Rattle.pool.proofs.Leaves.{block-inside, leaf-mark}
-use Rattle.sequence.proofs.Alphabets.{allBelow-getD, allBelow-from-getD}
-use Rattle.sequence.specs.Alphabet.{AllBelow}
 use Rattle.shape.specs.Sizes.{oneToAByte, most}
 use Rattle.pool_check.specs.Parts.{MarksFit}
 use Rattle.pool_check.specs.Says.{Says}

@@ -7,9 +7,9 @@ use native.Mathlib.Nat.{eq-zero-or-pos}
 use native.Mathlib.Omega.{arith}
 use lib.ListN.{length, getD, set, length-set}
 use lib.Seq.{getD-set-same, getD-set-other}
+use Rattle.lists.specs.Items.{AllBelow}
 use Rattle.pool.specs.Sound.{Distinct}
 use Rattle.sequence.proofs.Counts.{isMark-cases, isMark-same}
-use Rattle.sequence.specs.Alphabet.{AllBelow}
 use Rattle.sequence.specs.Definition1.{count}
 use Rattle.pool_check.specs.Walks.{meet, New}
 

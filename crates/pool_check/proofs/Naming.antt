@@ -7,22 +7,23 @@ use Prim.Native.Nat.{ℕ, _+_, _≤_}
 use native.Mathlib.Omega.{arith}
 use lib.Dec.{eqb}
 use borrow.Author.Tests.{eq-eqb, ne-eqb}
-use Rattle.pool_entries.proofs.Totals.{sum-none, sum-more, sum-all}
 use Rattle.geometry.specs.Layout.{recordSize, kindClosed, qAt}
 use Rattle.geometry.specs.Limits.{names, mostAlphabet}
 use Rattle.geometry.specs.declared.Record.{Record}
+use Rattle.lists.proofs.Sums.{sum-more, sum-all, sum-none}
+use Rattle.lists.specs.Sums.{sumBelow}
 use Rattle.pool.specs.Bytes.{recordAt}
 use Rattle.pool.specs.Names.{recordOf, blocksOf}
 use Rattle.pool.specs.Shares.{promisedShares}
-use Rattle.pool.specs.Sound.{SoundBelow, OpenName}
+use Rattle.pool.specs.Sound.{SoundBelow, OpenName, OpenRecord}
 use Rattle.pool.specs.Trees.{blocksAt, ownMarks}
 use Rattle.pool.specs.Words.{WordAt}
-use Rattle.pool.proofs.Written.{closed-record}
 use Rattle.pool.proofs.Summaries.{own-marks}
-use Rattle.sequence.specs.Alphabet.{sumBelow}
 use Rattle.shape.specs.Fill.{rootLeast}
 use Rattle.pool_check.specs.Walks.{Walked}
-use Rattle.pool_check.specs.Parts.{Zeros, OpenRecord, MarksFit, WalkedTree, SoundName}
+use Rattle.pool_check.specs.Parts.{Zeros, MarksFit, WalkedTree, SoundName}
+use Rattle.pool.proofs.Written.{closed-record}
+use Rattle.pool_check.specs.Parts.{Zeros, MarksFit, WalkedTree, SoundName}
 use Rattle.pool_check.specs.Says.{Says}
 use Rattle.pool_check.proofs.Deciding.{denied, say-same, say-equal}
 use Rattle.pool_check.proofs.Walking.{below-of, under-of, fit-of}
@@ -51,30 +52,11 @@ module _ (p : List ℕ) (name : ℕ) where
   -- the length is what the root says of itself
   whole : OpenRecord p name → Root → Fit → recordOf p name .length ≡ ownMarks p (recordOf p name .height) (recordOf p name .root) → OpenName p name
   whole o tree fit long = record {
-    kind = o .kind;
-    alphabetLeast = o .alphabetLeast;
-    alphabetMost = o .alphabetMost;
-    promise = o .promise;
-    height = o .height;
-    zeroByte = o .zeroByte;
-    spare = o .spare;
+    entry = o;
     root = tree .0;
     below = below tree fit;
     length = long
         ∙ own-marks p (recordOf p name .alphabet) (rootLeast (recordOf p name .height)) (recordOf p name .height) (recordOf p name .root) (tree .0) (below tree fit);
-    room = o .room;
-  }
-
-  record-of : OpenName p name → OpenRecord p name
-  record-of o = record {
-    kind = o .kind;
-    alphabetLeast = o .alphabetLeast;
-    alphabetMost = o .alphabetMost;
-    promise = o .promise;
-    height = o .height;
-    zeroByte = o .zeroByte;
-    spare = o .spare;
-    room = o .room;
   }
 
   long-of : OpenName p name → recordOf p name .length ≡ ownMarks p (recordOf p name .height) (recordOf p name .root)
@@ -83,7 +65,7 @@ module _ (p : List ℕ) (name : ℕ) where
       ∙ sym (own-marks p (recordOf p name .alphabet) (rootLeast (recordOf p name .height)) (recordOf p name .height) (recordOf p name .root) (o .root) (o .below))
 
   pub record-refused : (tag : ℕ) (bs map after : List ℕ) (r : Bool) → Says r (OpenRecord p name) → r ≡ false → Walked false (OpenName p name) tag bs map after
-  record-refused tag bs map after r says failed = walk-no tag bs map after (λ o new. denied says failed (record-of o))
+  record-refused tag bs map after r says failed = walk-no tag bs map after (λ o new. denied says failed (o .entry))
 
   module _ (tag : ℕ) (map after : List ℕ) (r : Bool) (walked : Walked r Root tag rootBlocks map after) where
     refused : r ≡ false → Walked false (OpenName p name) tag rootBlocks map after
@@ -143,7 +125,7 @@ module _ (p : List ℕ) (name : ℕ) (found : Record) (is : found ≡ recordOf p
   closed-walked tag at map r place closed zeros =
       let kind : recordOf p name .kind ≡ kindClosed = rw is at closed in
       rw (no-blocks closed) (record {
-        says = say-same (λ z. (inl z, tt)) (λ g. ⊎-elim (λ c. c) (λ o. absurd (omega (arith, o .kind))) (g .0)) (rw place at zeros);
+        says = say-same (λ z. (inl z, tt)) (λ g. ⊎-elim (λ c. c) (λ o. absurd (omega (arith, o .entry .kind))) (g .0)) (rw place at zeros);
         met = λ e. refl;
       })
 

@@ -10,12 +10,12 @@ use lib.ListN.{length, getD, set, take, length-set}
 use lib.Seq.{take-all, take-set-le, getD-set-same}
 use Rattle.geometry.specs.Layout.{countAt, mostLeaf}
 use Rattle.geometry.specs.Limits.{blockSize, mostAlphabet}
-use Rattle.pool.proofs.Leaves.{leaf-mark}
+use Rattle.lists.proofs.Measures.{measure-step}
 use Rattle.pool.specs.Blocks.{entries, leafMarks}
 use Rattle.pool.specs.Bytes.{byte, word, shares, blockAt}
-use Rattle.sequence.proofs.Counts.{isMark-other, count-one}
-use Rattle.sequence.proofs.Measures.{count-additive, measure-step}
+use Rattle.sequence.proofs.Counts.{isMark-other, count-one, count-additive}
 use Rattle.sequence.specs.Definition1.{isMark, count}
+use Rattle.pool.proofs.Blocks.{leaf-mark}
 use Rattle.pool_check.specs.Parts.{Padded}
 use Rattle.pool_check.proofs.Leaves.{length-marks}
 

@@ -3,34 +3,27 @@ use mathlib.Core.Bool.{false}
 use mathlib.Core.List.{List}
 use mathlib.Core.Logic.{⊎-elim}
 use mathlib.Core.Path.{_≡_}
-use Prim.Native.Nat.{ℕ, zero, suc, _+_, _≤_, _<_}
+use Prim.Native.Nat.{ℕ, _+_, _≤_, _<_}
 use native.Mathlib.Nat.{eq-zero-or-pos}
 use native.Mathlib.Omega.{arith}
 use borrow.Author.Tests.{lt-leb}
 use lib.ListN.{getD}
 use Rattle.geometry.specs.Limits.{names}
+use Rattle.lists.proofs.Sums.{sumBelow-some}
 use Rattle.pool.specs.Bytes.{shares}
 use Rattle.pool.specs.Names.{blocksOf, heldBlocks}
 use Rattle.pool.specs.Shares.{isHeld}
-use Rattle.sequence.specs.Alphabet.{sumBelow}
 use Rattle.sequence.specs.Definition1.{count}
 use Rattle.pool_holders.specs.Maps.{MapOf}
-use Rattle.pool_check.proofs.Holders.{times, times-held}
-
--- a block that stands somewhere stands in some name's list
-some-name : {A : Type 0} (p : List ℕ) (b n : ℕ) → 1 ≤ times p b n → ((name : ℕ) → name < n → 1 ≤ count b (blocksOf p name) → A) → A
-unfolding sumBelow
-some-name p b zero some found = absurd (omega arith)
-some-name p b (suc n) some found =
-    ⊎-elim (λ (none : count b (blocksOf p n) ≡ 0). some-name p b n (omega arith) (λ name low here. found name (omega arith) here))
-    (λ (here : 0 < count b (blocksOf p n)). found n (omega arith) here) (eq-zero-or-pos (count b (blocksOf p n)))
+use Rattle.pool_check.proofs.Holders.{times-held}
 
 module _ (p map : List ℕ) (is : MapOf p map) (b : ℕ) (low : b < shares p) where
   pub zero-free : getD map b 0 ≡ 0 → isHeld p b ≡ false
   zero-free none =
       ⊎-elim (λ (free : count b (heldBlocks p) ≡ 0). lt-leb 1 (count b (heldBlocks p)) (omega arith))
       (λ (held : 0 < count b (heldBlocks p)).
-      some-name p b names (omega (arith, times-held p b)) (λ name named here. absurd (omega (arith, is .held b name low named here))))
+      sumBelow-some names (λ name. count b (blocksOf p name)) (omega (arith, times-held p b))
+      (λ name named here. absurd (omega (arith, is .held b name low named here))))
       (eq-zero-or-pos (count b (heldBlocks p)))
 
   pub held-by : (name : ℕ) → name < names → getD map b 0 ≡ name + 1 → 1 ≤ count b (blocksOf p name)
@@ -38,6 +31,6 @@ module _ (p map : List ℕ) (is : MapOf p map) (b : ℕ) (low : b < shares p) wh
       ⊎-elim
       (λ (free : count b (heldBlocks p) ≡ 0). absurd (omega (arith, is .free b low (lt-leb 1 (count b (heldBlocks p)) (omega arith)))))
       (λ (held : 0 < count b (heldBlocks p)).
-      some-name p b names (omega (arith, times-held p b))
+      sumBelow-some names (λ other. count b (blocksOf p other)) (omega (arith, times-held p b))
       (λ other others here. let e : other ≡ name = omega (arith, is .held b other low others here) in rw e at here))
       (eq-zero-or-pos (count b (heldBlocks p)))

@@ -9,7 +9,8 @@ use Rattle.geometry.specs.Limits.{leastAlphabet, mostAlphabet, marksPerShare}
 use Rattle.geometry.specs.declared.Record.{Record}
 use Rattle.pool.specs.Bytes.{byte, recordAt}
 use Rattle.pool.specs.Names.{recordOf}
-use Rattle.pool_check.specs.Parts.{Zeros, OpenRecord}
+use Rattle.pool.specs.Sound.{OpenRecord}
+use Rattle.pool_check.specs.Parts.{Zeros}
 use Rattle.pool_check.specs.Says.{Says}
 use Rattle.pool_check.proofs.Deciding.{say-no, say-same}
 

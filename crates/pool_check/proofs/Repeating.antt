@@ -8,14 +8,14 @@ use native.Mathlib.Nat.{eq-or-lt-of-le}
 use native.Mathlib.Omega.{arith}
 use borrow.Author.Count.{below-none, below-more}
 use lib.Dec.{eqb}
+use Rattle.lists.proofs.Sums.{sum-none, sum-more, sum-all}
+use Rattle.lists.specs.Sums.{sumBelow}
 use Rattle.pool_entries.proofs.Summaries.{branch-size}
-use Rattle.pool_entries.proofs.Totals.{sum-none, sum-more, sum-all}
 use Rattle.pool_entries.specs.Summaries.{Is}
 use Rattle.geometry.specs.Layout.{leastBranch, mostBranch}
 use Rattle.geometry.specs.Limits.{mostAlphabet}
 use Rattle.pool.specs.Blocks.{entries, marksBelow, countBelow}
 use Rattle.pool.specs.Trees.{ownMarks, ownCount}
-use Rattle.sequence.specs.Alphabet.{sumBelow}
 use Rattle.shape.specs.Sizes.{oneToAByte, least, most}
 use Rattle.pool_check.specs.Parts.{Repeats, Matches}
 use Rattle.pool_check.specs.Says.{Says}

@@ -8,14 +8,15 @@ use Prim.Native.Nat.{ℕ, zero, suc, _+_, _-_, _*_, _≤_, _<_}
 use native.Mathlib.Nat.{eq-or-lt-of-le}
 use native.Mathlib.Numerals.{add-one}
 use native.Mathlib.Omega.{arith}
+use Rattle.lists.specs.Froms.{from}
+use Rattle.lists.specs.Joins.{joined}
 use Rattle.pool_entries.specs.Summaries.{Is}
 use Rattle.geometry.specs.Layout.{mostBranch}
 use Rattle.pool.specs.Blocks.{entries, link, children}
-use Rattle.pool.specs.Bytes.{shares, from}
+use Rattle.pool.specs.Bytes.{shares}
 use Rattle.pool.specs.Sound.{SoundBlock, SoundBelow, Tells}
 use Rattle.pool.specs.Trees.{blocksAt}
 use Rattle.pool.proofs.Summaries.{tells-own, own-told}
-use Rattle.shape.specs.Nested.{joined}
 use Rattle.shape.specs.Sizes.{oneToAByte, least}
 use Rattle.pool_check.specs.Walks.{Walked}
 use Rattle.pool_check.specs.Parts.{MarksFit, SoundUnder, WalkedTree, SoundChildren, Matches}

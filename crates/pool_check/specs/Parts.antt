@@ -3,16 +3,15 @@ use mathlib.Core.Bool.{Bool, true}
 use mathlib.Core.List.{List}
 use mathlib.Core.Logic.{_⊎_}
 use mathlib.Core.Path.{_≡_}
-use Prim.Native.Nat.{ℕ, zero, suc, _+_, _*_, _≤_, _<_}
+use Prim.Native.Nat.{ℕ, zero, suc, _+_, _≤_, _<_}
 use lib.ListN.{length}
 use Rattle.geometry.specs.Layout as Layout
-use Rattle.geometry.specs.Limits.{blockSize, leastAlphabet, mostAlphabet, marksPerShare, mostShares}
-use Rattle.sequence.specs.Alphabet.{AllBelow}
+use Rattle.geometry.specs.Limits.{blockSize, mostAlphabet, mostShares}
+use Rattle.lists.specs.Items.{AllBelow}
 use Rattle.sequence.specs.Definition1.{count}
 use Rattle.shape.specs.Sizes.{oneToAByte, least}
 use Rattle.pool.specs.Blocks.{leafMarks, link, marksBelow, countBelow}
-use Rattle.pool.specs.Bytes.{byte, recordAt}
-use Rattle.pool.specs.Names.{recordOf}
+use Rattle.pool.specs.Bytes.{byte}
 use Rattle.pool.specs.Sound.{SoundBlock, SoundBelow, Tells, ClosedName, OpenName, Sound}
 use Rattle.pool.specs.Trees.{ownMarks, ownCount}
 use Rattle.pool_holders.specs.Maps.{MapOf}
@@ -59,17 +58,6 @@ pub record Padded (leaf marks : List ℕ) : Type 0 where
 -- no mark c is told, or as many as there are, and c is below the alphabet's size
 abbrev pub Claim : List ℕ → ℕ → ℕ → ℕ → Type 0
 Claim marks alphabet c told = (told ≡ 0) ⊎ ((told ≡ count c marks) × (c < alphabet))
-
--- an open name's record, its tree aside
-pub record OpenRecord (p : List ℕ) (name : ℕ) : Type 0 where
-  pub kind : recordOf p name .kind ≡ Layout.kindMarks
-  pub alphabetLeast : leastAlphabet ≤ recordOf p name .alphabet
-  pub alphabetMost : recordOf p name .alphabet ≤ mostAlphabet
-  pub promise : 1 ≤ recordOf p name .q
-  pub height : recordOf p name .height ≤ Layout.mostHeight
-  pub zeroByte : byte p (recordAt name + Layout.zeroAt) ≡ 0
-  pub spare : (j : ℕ) → Layout.spareAt ≤ j → j < Layout.recordSize → byte p (recordAt name + j) ≡ 0
-  pub room : recordOf p name .length ≤ marksPerShare * recordOf p name .q
 
 -- a name is closed or open, and sound as such
 abbrev pub SoundName : List ℕ → ℕ → Type 0

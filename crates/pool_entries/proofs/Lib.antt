@@ -1,10 +1,8 @@
 pub mod Places
 pub mod Levels
-pub mod Totals
 pub mod Filling
 pub mod Summaries
-pub mod Written
-pub mod Neighbours
+pub mod Entries
 pub mod Telling
 pub mod Seats
 pub mod SeatedChildren

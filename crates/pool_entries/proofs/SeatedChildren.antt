@@ -5,16 +5,17 @@ use mathlib.Core.List.{List, _∷_}
 use Prim.Native.Nat.{ℕ, suc, _-_, _≤_, _<_, min}
 use native.Mathlib.Omega.{arith}
 use lib.ListN.{length, take, drop, length-append, length-take}
+use Rattle.lists.proofs.Measures.{Additive}
+use Rattle.lists.specs.Sums.{total}
 use Rattle.pool.specs.Blocks.{entries, link}
 use Rattle.pool.specs.Trees.{shapeAt, pathAt, entered}
-use Rattle.pool.proofs.Children.{length-shape, shape-around, told-before, told-takes}
-use Rattle.sequence.proofs.Measures.{Additive}
 use Rattle.shape.specs.Fill.{Within}
 use Rattle.shape.specs.Level.{Takes, seat, rest, chosen}
-use Rattle.shape.specs.Nested.{Node, total, flat, marksIn}
+use Rattle.shape.specs.Nested.{Node, flat, marksIn}
 use Rattle.shape.specs.Paths.{path}
 use Rattle.shape.proofs.Seat.{seat-takes, rest-takes, chosen-takes}
 use Rattle.shape.proofs.Steps.{takes-range}
+use Rattle.pool.proofs.Trees.{length-shape, shape-around, told-before, told-takes}
 use Rattle.pool_entries.specs.Seats.{Seated}
 use Rattle.pool_entries.specs.declared.Seat.{Seat}
 

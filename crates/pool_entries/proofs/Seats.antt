@@ -4,11 +4,11 @@ use mathlib.Core.Path.{_≡_, _∙_}
 use Prim.Native.Nat.{ℕ, zero, suc, _+_, _-_, _≤_, _<_}
 use native.Mathlib.Omega.{arith}
 use Rattle.geometry.specs.Layout.{leastBranch, mostBranch}
-use Rattle.sequence.specs.Alphabet.{sumBelow}
+use Rattle.lists.specs.Sums.{sumBelow}
 use Rattle.pool_entries.specs.Seats.{Seated}
 use Rattle.pool_entries.specs.Summaries.{Is}
 use Rattle.pool_entries.specs.declared.Seat.{Seat}
-use Rattle.pool_entries.proofs.Totals.{sum-of-none, sum-of-one, sum-of-two}
+use Rattle.lists.proofs.Sums.{sum-of-none, sum-of-one, sum-of-two}
 
 -- the child that takes i, of two or three whose number was read: its number k and what stands before it
 module _ (m : ℕ → ℕ) (first second many told i k before : ℕ) (one : first ≡ m 0) (two : second ≡ m 1)

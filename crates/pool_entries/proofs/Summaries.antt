@@ -2,22 +2,23 @@
 use mathlib.Core.Path.{_≡_, refl, ap, ap₂, _∙_}
 use mathlib.Core.List.{List}
 use Prim.Native.Nat.{ℕ, zero, suc, _+_, _-_, _*_, _≤_, _<_}
+use native.Mathlib.Nat.{add-assoc}
 use native.Mathlib.Omega.{arith}
 use lib.ListN.{length, take, drop}
 use Rattle.geometry.specs.Layout.{entryMarksAt, entryCountsAt, mostLeaf, mostBranch, wordSize}
 use Rattle.geometry.specs.Limits.{mostAlphabet}
+use Rattle.lists.proofs.Sums.{sumBelow-same}
+use Rattle.lists.specs.Sums.{sumBelow}
 use Rattle.pool.specs.Blocks.{entries, leafMarks, countBelow}
 use Rattle.pool.specs.Bytes.{blockAt}
 use Rattle.pool.specs.Trees.{ownMarks, ownCount}
 use Rattle.pool.specs.Words.{wordLimit}
 use Rattle.sequence.proofs.Counts.{count-take-le, count-le-length}
-use Rattle.sequence.specs.Alphabet.{sumBelow}
 use Rattle.sequence.specs.Definition1.{count}
 use Rattle.shape.specs.Sizes.{oneToAByte, most}
 use Rattle.pool_entries.specs.Summaries.{Is, wordsAt, SummaryOf, SmallSums}
 use Rattle.pool_entries.specs.declared.Summary.{Summary}
 use Rattle.pool_entries.proofs.Filling.{CountsFilled, fill-all}
-use Rattle.pool_entries.proofs.Totals.{sum-counts}
 
 -- marks, and all counts filled in
 pub summary-full : (p : List ℕ) (h b marks c : ℕ) (counts : List ℕ) → marks ≡ ownMarks p h b → CountsFilled (ownCount p h b) c counts → mostAlphabet ≤ c
@@ -31,6 +32,11 @@ unfolding leafMarks
 leaf-count p b at many c met place size counted =
     let e : at + many - at ≡ entries p b = omega (arith, size .is) in
     counted ∙ ap₂ (λ (n a : ℕ). count c (take n (drop a p))) e place
+
+-- the words at the offset of a symbol are its counts
+pub sum-counts : (p : List ℕ) (b c many : ℕ)
+    → sumBelow many (wordsAt p b (entryCountsAt + wordSize * c)) ≡ sumBelow many (λ k. countBelow p b k c)
+sum-counts p b c many = sumBelow-same many _ _ (λ k low. rw (← add-assoc))
 
 -- a branch's marks and its count of a symbol, the sums of words of its entries
 module _ (p : List ℕ) (b many : ℕ) (size : Is (entries p b) many) where

@@ -10,7 +10,7 @@ use Rattle.pool.specs.Sound.{Tells}
 use Rattle.pool.specs.Trees.{shapeAt}
 use Rattle.sequence.specs.Definition1.{count}
 use Rattle.shape.specs.Nested.{Node, flat, marksIn}
-use Rattle.pool_entries.proofs.Neighbours.{link-apart, marks-apart, count-apart}
+use Rattle.pool_entries.proofs.Entries.{link-apart, marks-apart, count-apart}
 
 -- an entry tells the marks of a node x, where that is what stands below its child
 pub entry-tells : (q : List ℕ) (h b k : ℕ) (x : Node h) → shapeAt q h (link q b k) ≡ x → marksBelow q b k ≡ marksIn h x

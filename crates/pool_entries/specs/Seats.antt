@@ -1,7 +1,7 @@
 -- The choice of a child.
 use mathlib.Core.Path.{_≡_}
 use Prim.Native.Nat.{ℕ, suc, _+_, _≤_, _<_}
-use Rattle.sequence.specs.Alphabet.{sumBelow}
+use Rattle.lists.specs.Sums.{sumBelow}
 use Rattle.pool_entries.specs.declared.Seat.{Seat}
 
 -- the child that takes i, of so many children that m measures: those before it add up to less than i, and with it to i at least; the

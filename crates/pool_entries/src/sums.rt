@@ -1,6 +1,10 @@
 // The summary of a block, from its own bytes: a leaf's marks are counted, a branch's entries added up.
 ghost use Prim.Native.Nat.{_≤_, _<_};
 ghost use Rattle.geometry.specs.Layout.{mostLeaf, mostBranch};
+ghost use mathlib.Core.Path.{_≡_};
+ghost use Prim.Native.Nat.{_+_, _≤_, _<_};
+ghost use Rattle.geometry.specs.Layout.{mostLeaf, mostBranch, entrySize, wordSize};
+ghost use Rattle.lists.specs.Sums.{sumBelow};
 ghost use Rattle.pool.specs.Blocks.{entries};
 ghost use Rattle.pool.specs.Bytes.{shares};
 ghost use Rattle.shape.specs.Sizes.{oneToAByte, most};

@@ -14,6 +14,7 @@ use lib.Seq.{take-at, drop-at, take-add, drop-drop, getD-drop, paste}
 use mir.Syntax.{w64}
 use mir.Val.{Fits}
 use Rattle.geometry.specs.Limits.{frameSize}
+use Rattle.lists.specs.Joins.{joined}
 use Rattle.text_hex.specs.Digits.{digitOf, digitsOf}
 use Rattle.text_hex.specs.Lines.{lineOf, lineSize, digitsOfFrame}
 use Rattle.text_hex.specs.declared.read.Reading.{Reading}
@@ -22,7 +23,6 @@ use Rattle.text_hex.proofs.Fronts.{front-with, back-with, long-with}
 use Rattle.text_hex.proofs.Written.{length-of-line}
 use Rattle.protocol.specs.Frames.{answerOfBytes}
 use Rattle.protocol.specs.declared.Answer.{Answer}
-use Rattle.shape.specs.Nested.{joined}
 use Rattle.program_batches.specs.Answers.{badAnswer, lineOfAnswer, lineOfBytes}
 use Rattle.program_batches.specs.Batch.{draftOf, keptByte, keptIn, completed, PutsAnswer, Completes}
 use Rattle.program_batches.proofs.Framed.{commandsRead}

@@ -7,6 +7,7 @@ use native.Mathlib.Omega.{arith}
 use lib.Dec.{eqb}
 use lib.ListN.{length, take, drop, length-append, length-take}
 use Rattle.geometry.specs.Limits.{frameSize}
+use Rattle.lists.specs.Joins.{joined}
 use Rattle.text_hex.specs.Digits.{allDigits, numberOfDigits}
 use Rattle.text_hex.specs.Lines.{frameOf, spelled, lineDigits, isFrame}
 use Rattle.text_hex.specs.declared.read.Reading.{Reading}
@@ -15,7 +16,6 @@ use Rattle.text_hex.proofs.Lines.{all-digits-part}
 use Rattle.text_hex.proofs.Digits.{second-of-both, number-fits}
 use Rattle.protocol.specs.Frames.{eightBytes, Fitting}
 use Rattle.protocol.specs.declared.Command.{Command}
-use Rattle.shape.specs.Nested.{joined}
 use Rattle.program_batches.specs.Batch.{bytesOf}
 
 -- the command of a frame's numbers

@@ -10,6 +10,9 @@ use lib.Seq.{take-add, paste}
 use mir.Syntax.{w64}
 use mir.Val.{Fits}
 use Rattle.geometry.specs.Limits.{frameSize}
+use Rattle.lists.proofs.Cuts.{rest-is}
+use Rattle.lists.proofs.Joins.{joined-append}
+use Rattle.lists.specs.Joins.{joined}
 use Rattle.text_hex.specs.Lines.{frameOf, lineOf, lineSize}
 use Rattle.text_hex.specs.declared.read.Reading.{Reading}
 use Rattle.text_hex.specs.declared.read.Reading.the-variants.{Frame, Bad}
@@ -19,13 +22,12 @@ use Rattle.text_hex.proofs.Written.{length-of-line}
 use Rattle.text_lines.specs.Lines.{Stands, Holds, Gathers, ended, left, trim, piece}
 use Rattle.text_lines.specs.declared.Gathered.{Gathered}
 use Rattle.text_lines.specs.declared.Gathering.{Gathering}
-use Rattle.text_lines.proofs.Chunks.{rest-is}
 use Rattle.text_lines.proofs.Held.{kept-tells}
 use Rattle.text_lines.proofs.Taken.{line-more, nothing-left, no-line-more, more-left}
 use Rattle.protocol.specs.Frames.{eightBytes, bytesOfCommand}
-use Rattle.shape.specs.Nested.{joined}
-use Rattle.shape.proofs.Folds.{joined-append}
 use Rattle.program_batches.specs.Batch.{draftOf, bytesOf, PutsLine, ReadsLines, BatchRead, ReadsOn, RoomForLine}
+use Rattle.protocol.specs.Frames.{eightBytes}
+use Rattle.program_batches.specs.Batch.{draftOf, bytesOf, PutsLine, ReadsLines, ReadsOn, RoomForLine}
 use Rattle.program_batches.specs.declared.Batch.{Batch}
 
 -- the kept bytes read as the line, where one byte more than the digits of a frame is kept: a line that was cut is too long to be one

@@ -7,13 +7,13 @@ use lib.Dec.{eqb}
 use lib.ListN.{length, getD, take, drop}
 use lib.Seq.{paste}
 use Rattle.geometry.specs.Limits.{frameSize}
+use Rattle.lists.specs.Joins.{joined}
 use Rattle.text_hex.specs.Lines.{frameOf, lineOf, lineSize}
 use Rattle.text_hex.specs.declared.read.Reading.{Reading}
 use Rattle.text_hex.specs.declared.read.Reading.the-variants.{Frame, Bad}
 use Rattle.text_lines.specs.Lines.{Stands, ended, left}
 use Rattle.text_lines.specs.declared.Gathered.{Gathered}
 use Rattle.protocol.specs.Frames.{eightBytes}
-use Rattle.shape.specs.Nested.{joined}
 use Rattle.program_batches.specs.Answers.{badAnswer, lineOfAnswer, lineOfBytes}
 use Rattle.program_batches.specs.declared.Batch.{Batch}
 

@@ -8,6 +8,7 @@ use lib.ListN.{length, take, drop, length-append}
 use borrow.Author.Tests.{lt-ltb, le-ltb}
 use lib.Seq.{take-add, paste}
 use Rattle.geometry.specs.Limits.{mostMarks, lastColumn}
+use Rattle.lists.proofs.Cuts.{rest-is}
 use Rattle.text_fixed_form.specs.Mark.{markOf}
 use Rattle.text_hex.specs.Lines.{lineOf, lineSize}
 use Rattle.text_hex.proofs.Fronts.{front-with, long-with}
@@ -15,7 +16,7 @@ use Rattle.text_hex.proofs.Written.{length-of-line}
 use Rattle.text_lines.specs.Lines.{Stands, Holds, Gathers, Finishes, ended, left, trim, piece}
 use Rattle.text_lines.specs.declared.Gathered.{Gathered}
 use Rattle.text_lines.specs.declared.Gathering.{Gathering}
-use Rattle.text_lines.proofs.Chunks.{rest-is, rest-some, step-within, step-less}
+use Rattle.text_lines.proofs.Chunks.{rest-some, step-within, step-less}
 use Rattle.text_lines.proofs.Held.{lines-all-ended, lines-one-open}
 use Rattle.text_lines.proofs.Taken.{line-more, nothing-left, no-line-more, more-left}
 use Rattle.protocol.specs.Commands.{insertCode}

@@ -10,15 +10,15 @@ use native.Mathlib.Omega.{arith}
 use lib.ListN.{length, take, drop, length-map, take-append-drop}
 use lib.Seq.{length-take-le, take-at, drop-at, take-all}
 use Rattle.geometry.specs.Limits.{frameSize, longestCommands}
+use Rattle.lists.specs.Froms.{from}
+use Rattle.lists.specs.Joins.{joined}
 use Rattle.protocol.specs.Frames.{bytesOfAnswer, commandOf, eightBytes, bytesOfCommand}
 use Rattle.protocol.specs.Respond.{answersTo, stateAfter, respond}
 use Rattle.protocol.specs.State.{State}
 use Rattle.protocol.specs.declared.Answer.{Answer}
 use Rattle.protocol.proofs.Frames.{command-of-bytes, length-of-answer}
-use Rattle.shape.specs.Nested.{joined}
 use Rattle.shape.specs.Trees.{Tree}
 use Rattle.machine.specs.Machine.{trees}
-use Rattle.pool.specs.Bytes.{from}
 use Rattle.pool.specs.Meaning.{meaning}
 use Rattle.pool.specs.Sound.{Sound}
 use Rattle.call_tests.specs.declared.Outcome.{Outcome}

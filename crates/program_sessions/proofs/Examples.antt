@@ -1,6 +1,7 @@
 -- The definition computes: the stored session of the first program, to the byte, and lines that are no frame.
 use mathlib.Core.List.{[], _∷_}
 use mathlib.Core.Path.{_≡_, refl}
+use Rattle.lists.specs.Joins.{joined}
 use Rattle.program_batches.specs.Answers.{badAnswer, lineOfAnswer, lineOfBytes}
 use Rattle.text_hex.specs.Digits.{valueOf, digitOf, digitsOf}
 use Rattle.text_hex.specs.Lines.{frameOf, spelled, lineOf, digitsOfFrame}
@@ -12,7 +13,6 @@ use Rattle.protocol.specs.Refusals.{refusals, statusOf}
 use Rattle.protocol.specs.Respond.{reply, respond}
 use Rattle.sequence.specs.Definition1.{count, access, rank, select, insert}
 use Rattle.shape.specs.Level.{halves, chop}
-use Rattle.shape.specs.Nested.{joined}
 use Rattle.shape.specs.Paths.{path}
 use Rattle.shape.specs.Trees.{insertNode, grown, insertT}
 use Rattle.program_sessions.specs.Session.{answersToLines, writtenFor, sessionOf}

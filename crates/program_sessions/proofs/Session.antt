@@ -2,11 +2,11 @@
 -- what the machine makes of the frames alone. By induction on the lines.
 use mathlib.Core.Path.{_≡_, refl, ap, _∙_}
 use mathlib.Core.List.{List, [], _∷_, _++_}
+use Rattle.lists.proofs.Joins.{joined-append}
+use Rattle.lists.specs.Joins.{joined}
 use Rattle.protocol.specs.Respond.{stateAfter, respond}
 use Rattle.protocol.specs.State.{State}
-use Rattle.shape.specs.Nested.{joined}
 use Rattle.shape.specs.Trees.{Tree}
-use Rattle.shape.proofs.Folds.{joined-append}
 use Rattle.machine.specs.Machine.{trees}
 use Rattle.text_hex.specs.declared.read.Reading.the-variants.{Frame, Bad}
 use Rattle.text_hex.specs.declared.read.Reading.{Reading}

@@ -8,13 +8,13 @@ use Prim.Native.Nat.{ℕ, _+_, _-_, _*_, _/_, _≤_, _<_}
 use native.Mathlib.Omega.{arith}
 use lib.ListN.{length, take, drop}
 use Rattle.geometry.specs.Limits.{frameSize, longestCommands, directorySize, blockSize}
+use Rattle.lists.specs.Joins.{joined}
 use Rattle.protocol.specs.State.{freshState}
-use Rattle.shape.specs.Nested.{joined}
 use Rattle.shape.specs.Trees.{Tree}
 use Rattle.pool.specs.Formatted.{formatted}
 use Rattle.pool.specs.Meaning.{meaning}
 use Rattle.pool.specs.Sound.{LengthAllowed}
-use Rattle.pool.proofs.FormattedSound.{length-formatted, formatted-sound, formatted-meaning}
+use Rattle.pool.proofs.Formatted.{length-formatted, formatted-sound, formatted-meaning}
 use Rattle.call_run.specs.Calls.{Formats}
 use Rattle.call_run.proofs.Outcomes.{length-cases}
 use Rattle.text_lines.specs.Lines.{Stands, lineFeed, trims, trim, ended, left, linesOf}

@@ -3,6 +3,7 @@ use mathlib.Core.Path.{_≡_}
 use mathlib.Core.List.{List, map}
 use Prim.Native.Nat.{ℕ, _*_, _≤_}
 use lib.ListN.{length, take}
+use Rattle.lists.specs.Joins.{joined}
 use Rattle.program_batches.specs.Answers.{lineOfAnswer}
 use Rattle.program_batches.specs.Batch.{draftOf, bytesOf, keptIn}
 use Rattle.geometry.specs.Limits.{frameSize}
@@ -10,7 +11,6 @@ use Rattle.text_hex.specs.Lines.{frameOf, lineSize}
 use Rattle.call_tests.specs.Tests.{CommandsAllowed}
 use Rattle.pool.specs.Meaning.{meaning}
 use Rattle.pool.specs.Sound.{Sound}
-use Rattle.shape.specs.Nested.{joined}
 use Rattle.program_sessions.specs.Session.{answersToLines, stateAfterLines}
 
 -- what a call needs: commands that it takes, drafts within out, and no more places kept than there are commands

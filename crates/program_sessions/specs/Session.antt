@@ -2,6 +2,7 @@
 use mathlib.Core.Bool.{false}
 use mathlib.Core.List.{List, [], _∷_, map}
 use Prim.Native.Nat.{ℕ, _-_, _/_}
+use Rattle.lists.specs.Joins.{joined}
 use Rattle.program_batches.specs.Answers.{badAnswer, lineOfAnswer}
 use Rattle.geometry.specs.Limits.{programPool, directorySize, blockSize}
 use Rattle.text_hex.specs.Lines.{frameOf}
@@ -12,7 +13,6 @@ use Rattle.machine.specs.Machine.{trees}
 use Rattle.protocol.specs.Respond.{Response, respond}
 use Rattle.protocol.specs.State.{State, freshState}
 use Rattle.protocol.specs.declared.Answer.{Answer}
-use Rattle.shape.specs.Nested.{joined}
 use Rattle.shape.specs.Trees.{Tree}
 
 -- what a line is answered, and the state after it: a frame is run, a bad line isn't

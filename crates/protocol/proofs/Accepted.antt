@@ -9,18 +9,8 @@ use lib.Dec.{leb}
 use lib.ListN.{length, getD}
 use Rattle.geometry.specs.Limits.{names, leastAlphabet, mostAlphabet, marksPerShare}
 use Rattle.sequence.specs.Definition1.{count}
-use Rattle.protocol.specs.Commands.{
-  rows,
-  openCode,
-  closeCode,
-  insertCode,
-  deleteCode,
-  accessCode,
-  rankCode,
-  selectCode,
-  lengthCode,
-  unpromisedCode,
-}
+use Rattle.protocol.specs.Commands.{openCode, closeCode, insertCode, deleteCode, accessCode, rankCode, selectCode, lengthCode, unpromisedCode}
+use Rattle.protocol.specs.Commands.{rows}
 use Rattle.protocol.specs.Refusals.{NoneApplies, applies, refusals, statusOf, listed, isNameAllowed, noName}
 use Rattle.protocol.specs.State.{Store, Part, closed, opened, isOpen, alphabetOf, sharesOf, marksOf}
 use Rattle.protocol.specs.declared.Command.{Command}

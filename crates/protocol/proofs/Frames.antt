@@ -10,7 +10,8 @@ use lib.ListN.{length, getD, take, drop, set, drop-of-length-le}
 use lib.Seq.{drop-cons, getD-take, getD-drop, sets-eq, paste}
 use Rattle.geometry.specs.Limits.{frameSize}
 use Rattle.protocol.specs.Frames.{numberOf, commandOf, answerOfBytes, bytesOfCommand, bytesOfAnswer, Fitting}
-use Rattle.sequence.specs.Alphabet.{AllBelow}
+use Rattle.lists.specs.Items.{AllBelow}
+use Rattle.protocol.specs.Frames.{numberOf, commandOf, bytesOfCommand, bytesOfAnswer, Fitting}
 use Rattle.protocol.specs.declared.Answer.{Answer}
 use Rattle.protocol.specs.declared.Command.{Command}
 

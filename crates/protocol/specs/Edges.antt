@@ -2,16 +2,7 @@
 use mathlib.Core.List.{List, [], _∷_, _++_}
 use Prim.Native.Nat.{ℕ}
 use lib.ListN.{replicate}
-use Rattle.protocol.specs.Commands.{
-  openCode,
-  insertCode,
-  deleteCode,
-  accessCode,
-  rankCode,
-  selectCode,
-  lengthCode,
-  unpromisedCode,
-}
+use Rattle.protocol.specs.Commands.{openCode, insertCode, deleteCode, accessCode, rankCode, selectCode, lengthCode, unpromisedCode}
 use Rattle.protocol.specs.Respond.{respond, stateAfter}
 use Rattle.protocol.specs.State.{freshState, lists}
 use Rattle.protocol.specs.declared.Answer.{Answer}

@@ -4,7 +4,7 @@ use mathlib.Core.Path.{_≡_}
 use Prim.Native.Nat.{ℕ, _+_, _*_, _≤_}
 use lib.ListN.{length}
 use Rattle.geometry.specs.Limits.{names, leastAlphabet, mostAlphabet, marksPerShare}
-use Rattle.sequence.specs.Alphabet.{AllBelow}
+use Rattle.lists.specs.Items.{AllBelow}
 use Rattle.sequence.specs.Definition1 as Definition1
 use Rattle.protocol.specs.State.{Store, Part, State, closed, opened, partOf, promised}
 

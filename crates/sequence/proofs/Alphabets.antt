@@ -2,28 +2,20 @@
 use mathlib.Core.Path.{_≡_, refl, _∙_}
 use mathlib.Core.List.{List, [], _∷_}
 use mathlib.Core.Logic.{_⊎_, inl, inr, ⊎-elim}
-use Prim.Native.Nat.{ℕ, zero, suc, _+_, _-_, _≤_, _<_}
+use Prim.Native.Nat.{ℕ, zero, suc, _-_, _≤_, _<_}
 use native.Mathlib.Nat.{eq-zero-or-pos}
 use native.Mathlib.Omega.{arith}
-use lib.ListN.{length, getD, take}
+use lib.ListN.{length, take}
 use lib.Seq.{length-take-le}
+use Rattle.lists.proofs.Items.{allBelow-getD, all-take}
+use Rattle.lists.proofs.Sums.{sumBelow-add, sumBelow-zero}
+use Rattle.lists.specs.Items.{AllBelow}
+use Rattle.lists.specs.Sums.{sumBelow}
 use Rattle.sequence.specs.Definition1.{isMark, count, access, rank}
-use Rattle.sequence.specs.Alphabet.{AllBelow, sumBelow}
 use Rattle.sequence.proofs.Counts.{isMark-cases, isMark-other}
-use Rattle.sequence.proofs.Items.{all-take}
 
 below-or-not : (x σ : ℕ) → (x < σ) ⊎ (σ ≤ x)
 below-or-not x σ = ⊎-elim (λ e. inr (omega arith)) (λ h. inl (omega arith)) (eq-zero-or-pos (σ - x))
-
-pub sumBelow-zero : (σ : ℕ) → sumBelow σ (λ c. 0) ≡ 0
-unfolding sumBelow
-sumBelow-zero zero = refl
-sumBelow-zero (suc σ) = omega (arith, sumBelow-zero σ)
-
-pub sumBelow-add : (σ : ℕ) (f g : ℕ → ℕ) → sumBelow σ (λ c. f c + g c) ≡ sumBelow σ f + sumBelow σ g
-unfolding sumBelow
-sumBelow-add zero f g = refl
-sumBelow-add (suc σ) f g = omega (arith, sumBelow-add σ f g)
 
 -- a mark is none of the symbols below it
 pub sumBelow-isMark-none : (σ x : ℕ) → σ ≤ x → sumBelow σ (λ c. isMark c x) ≡ 0
@@ -48,16 +40,6 @@ unfolding count
 counts-add-up σ [] b = sumBelow-zero σ
 counts-add-up σ (x ∷ xs) b =
     omega (arith, sumBelow-add σ (λ c. isMark c x) (λ c. count c xs), sumBelow-isMark-one σ x (b .0), counts-add-up σ xs (b .1))
-
--- mark by mark, at indices from 0
-pub allBelow-getD : (σ : ℕ) (xs : List ℕ) → AllBelow σ xs → (k : ℕ) → k < length xs → getD xs k 0 < σ
-allBelow-getD σ [] b k h = absurd (omega arith)
-allBelow-getD σ (x ∷ xs) b zero h = b .0
-allBelow-getD σ (x ∷ xs) b (suc k) h = allBelow-getD σ xs (b .1) k (omega arith)
-
-pub allBelow-from-getD : (σ : ℕ) (xs : List ℕ) → ((k : ℕ) → k < length xs → getD xs k 0 < σ) → AllBelow σ xs
-allBelow-from-getD σ [] b = tt
-allBelow-from-getD σ (x ∷ xs) b = (b 0 (omega arith), allBelow-from-getD σ xs (λ k h. b (suc k) (omega arith)))
 
 pub allBelow-access : (σ : ℕ) (xs : List ℕ) (i : ℕ) → AllBelow σ xs → 1 ≤ i → i ≤ length xs → access xs i < σ
 unfolding access

@@ -1,17 +1,33 @@
 -- The list after an insert or a delete, asked on both sides of the place. A delete's laws are those of the insert that undoes it.
 use mathlib.Core.Path.{_≡_, refl, sym, ap, _∙_}
-use mathlib.Core.List.{List, _∷_, _++_}
+use mathlib.Core.List.{List, [], _∷_, _++_}
 use Prim.Native.Nat.{ℕ, suc, _+_, _-_, _≤_, _<_}
 use native.Mathlib.Omega.{arith}
 use lib.ListN.{length, take, drop, length-append, length-take, length-drop, take-append-drop}
-use lib.Seq.{length-take-le, take-add, take-at, take-append-add, drop-at, drop-append-add, drop-drop, getD-at}
+use lib.Seq.{length-take-le, split-at, take-add, take-at, take-append-add, drop-at, drop-append-add, drop-drop, getD-at}
+use Rattle.lists.proofs.Items.{all-append, all-take, all-drop}
+use Rattle.lists.proofs.Measures.{Additive, measure-parts}
+use Rattle.lists.specs.Items.{AllBelow}
 use Rattle.sequence.specs.Definition1.{isMark, count, access, rank, select, insert, delete}
-use Rattle.sequence.specs.Alphabet.{AllBelow}
-use Rattle.sequence.proofs.Counts.{count-one, isMark-same}
-use Rattle.sequence.proofs.Items.{all-append, all-take, all-drop}
-use Rattle.sequence.proofs.Measures.{count-additive, split-place, measure-insert}
+use Rattle.sequence.proofs.Counts.{count-one, isMark-same, count-additive}
 use Rattle.sequence.proofs.Seams.{access-left, access-right, select-left, select-right, insert-right, delete-right}
 use Rattle.sequence.proofs.Selects.{access-cons, select-zero, select-cons}
+
+-- a list, cut around its place i
+split-place : (xs : List ℕ) (i : ℕ) → 1 ≤ i → i ≤ length xs → take (i - 1) xs ++ access xs i ∷ drop i xs ≡ xs
+unfolding access
+split-place xs i p h =
+    let e : suc (i - 1) ≡ i = omega arith in
+    let l : i - 1 < length xs = omega arith in
+    rw e at (sym (split-at xs (i - 1) 0 l))
+
+-- put in anywhere at all, x adds its own measure
+measure-insert : (μ : List ℕ → ℕ) → Additive μ → (x i : ℕ) (xs : List ℕ) → μ (insert x i xs) ≡ μ (x ∷ []) + μ xs
+unfolding insert
+measure-insert μ additive x i xs =
+    let l = take (i - 1) xs in
+    let r = drop (i - 1) xs in
+    omega (arith, additive l (x ∷ r), additive (x ∷ []) r, measure-parts μ additive (i - 1) xs)
 
 pub length-insert : (x i : ℕ) (xs : List ℕ) → length (insert x i xs) ≡ length xs + 1
 length-insert x i xs = omega (arith, measure-insert length length-append x i xs)

@@ -6,9 +6,9 @@ use native.Mathlib.Nat.{le-refl, sub-self}
 use native.Mathlib.Omega.{arith}
 use lib.ListN.{length, getD, take, drop, length-drop}
 use lib.Seq.{take-all, getD-drop}
+use Rattle.lists.proofs.Measures.{measure-take-le, measure-stretch, measure-stretches, measure-monotone, measure-step}
 use Rattle.sequence.specs.Definition1.{isMark, count, access, rank}
-use Rattle.sequence.proofs.Counts.{count-one, count-take-le}
-use Rattle.sequence.proofs.Measures.{count-additive, measure-take-le, measure-stretch, measure-stretches, measure-monotone, measure-step}
+use Rattle.sequence.proofs.Counts.{count-one, count-take-le, count-additive}
 
 module _ (c : ℕ) (xs : List ℕ) where
   pub rank-zero : rank c xs 0 ≡ 0

@@ -6,8 +6,9 @@ use native.Mathlib.Nat.{zero-add, sub-zero}
 use native.Mathlib.Omega.{arith}
 use lib.ListN.{length, getD, take, drop, List·getD-append}
 use lib.Seq.{take-append-le, drop-append-le, take-append-add, drop-append-add, getD-append-add}
+use Rattle.lists.proofs.Measures.{measure-left, measure-right}
 use Rattle.sequence.specs.Definition1.{isMark, count, access, rank, select, insert, delete}
-use Rattle.sequence.proofs.Measures.{count-additive, measure-left, measure-right}
+use Rattle.sequence.proofs.Counts.{count-additive}
 use Rattle.sequence.proofs.Selects.{select-zero}
 
 module _ (xs ys : List ℕ) (i : ℕ) where

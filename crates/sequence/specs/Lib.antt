@@ -1,3 +1,1 @@
-pub mod Alphabet
 pub mod Definition1
-pub mod Items

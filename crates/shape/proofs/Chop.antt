@@ -4,8 +4,9 @@ use mathlib.Core.List.{List, [], _∷_, _++_, append-nil}
 use Prim.Native.Nat.{ℕ, _≤_, _<_}
 use native.Mathlib.Omega.{arith}
 use lib.ListN.{length, take, drop, take-append-drop}
-use Rattle.sequence.proofs.Measures.{Additive}
-use Rattle.shape.specs.Nested.{joined, total}
+use Rattle.lists.proofs.Measures.{Additive}
+use Rattle.lists.specs.Joins.{joined}
+use Rattle.lists.specs.Sums.{total}
 use Rattle.shape.specs.Level.{middle, halves, chop}
 use Rattle.shape.specs.Fill.{Within}
 use Rattle.shape.proofs.Choice.{by-leb, cond-le, cond-lt}

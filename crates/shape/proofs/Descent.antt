@@ -5,12 +5,17 @@ use Prim.Native.Nat.{ℕ, zero, suc, _+_, _-_, _≤_}
 use native.Mathlib.Omega.{arith}
 use lib.ListN.{length}
 use lib.Seq.{take-append-seam, getD-append-seam}
-use Rattle.sequence.proofs.Measures.{Additive, measure-nil}
-use Rattle.shape.specs.Nested.{Node, joined, total, flat}
+use Rattle.lists.proofs.Cuts.{drop-suc-seam}
+use Rattle.lists.proofs.Joins.{joined-append}
+use Rattle.lists.proofs.Measures.{Additive, measure-nil}
+use Rattle.lists.proofs.Sums.{total-joined}
+use Rattle.lists.specs.Joins.{joined}
+use Rattle.lists.specs.Sums.{total}
+use Rattle.shape.specs.Nested.{Node, flat}
 use Rattle.shape.specs.Level.{Takes, seat, rest, chosen}
 use Rattle.shape.specs.Paths.{Leads, path, leafAt, leftOf, rightOf}
-use Rattle.shape.proofs.Folds.{joined-append, total-joined, flat-nil}
-use Rattle.shape.proofs.Seat.{drop-suc-seam, by-taker, seat-takes, rest-takes, chosen-takes, takes-past, takes-within}
+use Rattle.shape.proofs.Nested.{flat-nil}
+use Rattle.shape.proofs.Seat.{by-taker, seat-takes, rest-takes, chosen-takes, takes-past, takes-within}
 
 -- One level, at the children before, the child and the children after.
 module _ (h : ℕ) (before : List (Node h)) (x : Node h) (after : List (Node h)) (p : List ℕ) where

@@ -4,11 +4,12 @@ use mathlib.Core.List.{List, [], _∷_, _++_}
 use Prim.Native.Nat.{ℕ, zero, suc, _+_, _-_, _*_, _≤_, _<_}
 use native.Mathlib.Omega.{arith}
 use lib.ListN.{length, take, drop, length-append, length-take, length-drop, take-append-drop}
+use Rattle.lists.proofs.Items.{all-map, all-append, all-left, all-right}
+use Rattle.lists.specs.Items.{All}
+use Rattle.lists.specs.Sums.{total}
 use Rattle.sequence.specs.Definition1.{insert}
-use Rattle.sequence.specs.Items.{All}
-use Rattle.sequence.proofs.Items.{all-map, all-append, all-left, all-right}
 use Rattle.sequence.proofs.Edits.{length-insert, length-delete-le, length-le-delete}
-use Rattle.shape.specs.Nested.{Node, total, marksIn}
+use Rattle.shape.specs.Nested.{Node, marksIn}
 use Rattle.shape.specs.Sizes.{Sizes, Proper, least, most}
 use Rattle.shape.specs.Level.{middle, halves, chop, shorter, mend, Takes, inChild}
 use Rattle.shape.specs.Trees.{Tree, emptyT, insertNode, deleteNode, grown, shrunk, insertT, deleteT}

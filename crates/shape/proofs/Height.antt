@@ -6,14 +6,15 @@ use Prim.Native.Nat.{ℕ, zero, suc, _-_, _*_, _/_, _^_, _≤_, _<_, max}
 use native.Mathlib.Nat.{mul-le-mul-left, le-div-iff-mul-le, le-trans, mul-comm, mul-one, pow-succ', pow-le-pow-right, eq-zero-or-pos}
 use native.Mathlib.Omega.{arith}
 use lib.ListN.{length, length-append}
-use Rattle.sequence.specs.Items.{All}
-use Rattle.sequence.proofs.Items.{all-map}
-use Rattle.shape.specs.Nested.{Node, total, flat, marksIn}
+use Rattle.lists.proofs.Items.{all-map}
+use Rattle.lists.proofs.Sums.{total-one, total-scaled, total-joined}
+use Rattle.lists.specs.Items.{All}
+use Rattle.lists.specs.Sums.{total}
+use Rattle.shape.specs.Nested.{Node, flat, marksIn}
 use Rattle.shape.specs.Sizes.{Sizes, Proper}
 use Rattle.shape.specs.Trees.{Tree, marksT}
 use Rattle.shape.specs.Fill.{Filled, FilledFrom, FilledT}
 use Rattle.shape.specs.Paths.{path, depthT}
-use Rattle.shape.proofs.Folds.{total-one, total-scaled, total-joined}
 
 -- a path goes down all levels
 pub length-path : (g : List ℕ → ℕ) (h j : ℕ) (x : Node h) → length (path g h j x) ≡ h

@@ -1,6 +1,6 @@
 -- Theorems that stand for themselves, applied nowhere: deleteT-blocks, divides-all, divides-not, blocks-in-shares-two and depth-in-rule-two.
 pub mod Choice
-pub mod Folds
+pub mod Nested
 pub mod Seat
 pub mod Chop
 pub mod Mend

@@ -5,13 +5,17 @@ use Prim.Native.Nat.{ℕ, zero, suc, _+_, _-_, _≤_, _<_}
 use native.Mathlib.Nat.{sub-zero}
 use native.Mathlib.Omega.{arith}
 use lib.ListN.{length, length-append}
+use Rattle.lists.proofs.Joins.{joined-append}
+use Rattle.lists.proofs.Sums.{total-joined}
+use Rattle.lists.specs.Joins.{joined}
+use Rattle.lists.specs.Sums.{total}
 use Rattle.sequence.specs.Definition1.{insert, delete}
 use Rattle.sequence.proofs.Seams.{insert-left, insert-right, delete-left, delete-right}
-use Rattle.shape.specs.Nested.{Node, joined, total, flat}
+use Rattle.shape.specs.Nested.{Node, flat}
 use Rattle.shape.specs.Sizes.{Sizes, least, most}
 use Rattle.shape.specs.Level.{Takes, seat, rest, chosen, inChild}
 use Rattle.shape.specs.Trees.{Tree, insertNode, deleteNode, grown, shrunk, insertT, deleteT, marksT}
-use Rattle.shape.proofs.Folds.{joined-append, total-joined, flat-nil, flat-append}
+use Rattle.shape.proofs.Nested.{flat-nil, flat-append}
 use Rattle.shape.proofs.Seat.{by-taker, inChild-takes, takes-past, takes-reach}
 use Rattle.shape.proofs.Chop.{joined-chop}
 use Rattle.shape.proofs.Mend.{joined-mend}

@@ -4,11 +4,11 @@ use mathlib.Core.List.{List, [], _∷_, _++_, append-assoc}
 use Prim.Native.Nat.{ℕ, _≤_, _<_}
 use native.Mathlib.Omega.{arith}
 use lib.ListN.{length}
-use Rattle.sequence.specs.Items.{All}
-use Rattle.shape.specs.Nested.{joined}
+use Rattle.lists.proofs.Joins.{joined-append}
+use Rattle.lists.specs.Items.{All}
+use Rattle.lists.specs.Joins.{joined}
 use Rattle.shape.specs.Level.{chop, shorter, mend}
 use Rattle.shape.proofs.Choice.{by-leb, cond-le, cond-lt}
-use Rattle.shape.proofs.Folds.{joined-append}
 use Rattle.shape.proofs.Chop.{joined-chop}
 
 module _ {A : Type 0} (least most : ℕ) where

@@ -3,14 +3,15 @@ use Prim.Native.Nat.{ℕ, zero, suc, _-_, _*_, _≤_}
 use native.Mathlib.Nat.{mul-le-mul-left, le-of-mul-le-mul-left, le-trans}
 use native.Mathlib.Omega.{arith}
 use lib.ListN.{length, length-append}
-use Rattle.sequence.specs.Items.{All}
-use Rattle.sequence.proofs.Items.{all-map}
-use Rattle.shape.specs.Nested.{Node, total, flat, marksIn}
+use Rattle.lists.proofs.Items.{all-map}
+use Rattle.lists.proofs.Sums.{total-suc, total-scaled, total-joined}
+use Rattle.lists.specs.Items.{All}
+use Rattle.lists.specs.Sums.{total}
+use Rattle.shape.specs.Nested.{Node, flat, marksIn}
 use Rattle.shape.specs.Sizes.{Sizes, Proper}
 use Rattle.shape.specs.Trees.{Tree, marksT}
 use Rattle.shape.specs.Fill.{Filled, FilledFrom, FilledT}
 use Rattle.shape.specs.Blocks.{blocks, blocksT}
-use Rattle.shape.proofs.Folds.{total-suc, total-scaled, total-joined}
 
 module _ (s : Sizes) (proper : Proper s) where
   branch-room : (h : ℕ) (x : Node (suc h)) → 2 ≤ length x → All (λ y. s .share * suc (blocks h y) ≤ marksIn h y) x

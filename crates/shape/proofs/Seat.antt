@@ -4,15 +4,16 @@ use mathlib.Core.List.{List, [], _∷_, _++_}
 use mathlib.Core.Logic.{⊎-elim}
 use Prim.Native.Nat.{ℕ, suc, _+_, _-_, _≤_, _<_}
 use native.Mathlib.Nat.{eq-zero-or-pos}
-use native.Mathlib.Numerals.{add-one}
 use native.Mathlib.Omega.{arith}
-use lib.ListN.{length, drop}
-use lib.Seq.{take-append-seam, drop-append-add, getD-append-seam}
-use Rattle.sequence.proofs.Measures.{Additive, measure-nil}
-use Rattle.shape.specs.Nested.{joined, total}
+use lib.ListN.{length}
+use lib.Seq.{take-append-seam, getD-append-seam}
+use Rattle.lists.proofs.Cuts.{drop-suc-seam}
+use Rattle.lists.proofs.Measures.{Additive, measure-nil}
+use Rattle.lists.proofs.Sums.{total-append, total-joined}
+use Rattle.lists.specs.Joins.{joined}
+use Rattle.lists.specs.Sums.{total}
 use Rattle.shape.specs.Level.{Takes, seat, rest, chosen, inChild}
 use Rattle.shape.proofs.Choice.{cond-le, cond-lt}
-use Rattle.shape.proofs.Folds.{total-append, total-joined}
 
 module _ {A : Type 0} (f : A → ℕ) where
   -- one item more in front, which does not take i
@@ -46,9 +47,6 @@ module _ {A : Type 0} (f : A → ℕ) where
   pub rest-takes : (i : ℕ) (before : List A) (x : A) (after : List A) → Takes f i before x after → rest f i (before ++ x ∷ after) ≡ i - total f before
   unfolding rest
   rest-takes i before x after t = rw (seat-takes i before x after t, take-append-seam)
-
-pub drop-suc-seam : {A : Type 0} (before : List A) (x : A) (after : List A) → drop (suc (length before)) (before ++ x ∷ after) ≡ after
-drop-suc-seam before x after = rw (← add-one (length before)) (drop-append-add before (x ∷ after) 1)
 
 module _ {A : Type 0} (f : List A → ℕ) where
   pub chosen-takes : (i : ℕ) (before : List (List A)) (x : List A) (after : List (List A)) → Takes f i before x after → chosen f i (before ++ x ∷ after) ≡ x

@@ -6,20 +6,21 @@ use Prim.Native.Nat.{ℕ, zero, suc, _+_, _-_, _≤_, _<_}
 use native.Mathlib.Omega.{arith}
 use lib.Dec.{T, leb}
 use lib.ListN.{length}
+use Rattle.lists.proofs.Items.{all-right}
+use Rattle.lists.proofs.Measures.{Additive}
+use Rattle.lists.proofs.Sums.{total-append, total-one, total-suc}
+use Rattle.lists.specs.Items.{All}
+use Rattle.lists.specs.Sums.{total}
 use Rattle.sequence.specs.Definition1.{insert}
-use Rattle.sequence.specs.Items.{All}
-use Rattle.sequence.proofs.Measures.{Additive}
-use Rattle.sequence.proofs.Items.{all-right}
 use Rattle.sequence.proofs.Edits.{length-insert}
 use Rattle.sequence.proofs.Counts.{cond-le-one}
-use Rattle.shape.specs.Nested.{Node, total, marksIn}
+use Rattle.shape.specs.Nested.{Node, marksIn}
 use Rattle.shape.specs.Sizes.{Sizes, Proper, least, most}
 use Rattle.shape.specs.Level.{Takes, halves, chop, shorter, mend, rest, chosen, inChild}
 use Rattle.shape.specs.Trees.{Tree, insertNode, deleteNode, grown, shrunk, insertT, deleteT}
 use Rattle.shape.specs.Fill.{Filled, FilledFrom, FilledT, rootLeast}
 use Rattle.shape.specs.Blocks.{nodesBelow, blocks, blocksT, divides, splits, splitsT}
 use Rattle.shape.proofs.Choice.{by-leb}
-use Rattle.shape.proofs.Folds.{total-append, total-one, total-suc}
 use Rattle.shape.proofs.Seat.{by-taker, rest-takes, chosen-takes, inChild-takes}
 use Rattle.shape.proofs.Chop.{chop-fits, chop-halves, chop-one-or-two, total-chop}
 use Rattle.shape.proofs.Filled.{root-least}

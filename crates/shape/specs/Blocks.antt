@@ -3,7 +3,8 @@ use mathlib.Core.Bool.{Bool, cond, _&&_}
 use Prim.Native.Nat.{ℕ, zero, suc, _+_}
 use lib.Dec.{leb}
 use lib.ListN.{length}
-use Rattle.shape.specs.Nested.{Node, total, marksIn}
+use Rattle.lists.specs.Sums.{total}
+use Rattle.shape.specs.Nested.{Node, marksIn}
 use Rattle.shape.specs.Sizes.{Sizes, most}
 use Rattle.shape.specs.Level.{rest, chosen}
 use Rattle.shape.specs.Trees.{Tree}

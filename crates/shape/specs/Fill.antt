@@ -2,7 +2,7 @@
 use mathlib.Core.List.{List, [], _∷_}
 use Prim.Native.Nat.{ℕ, zero, suc, _≤_}
 use lib.ListN.{length}
-use Rattle.sequence.specs.Items.{All}
+use Rattle.lists.specs.Items.{All}
 use Rattle.shape.specs.Nested.{Node}
 use Rattle.shape.specs.Sizes.{Sizes, least, most}
 use Rattle.shape.specs.Trees.{Tree}

@@ -4,7 +4,7 @@ use mathlib.Core.List.{List, [], _∷_, _++_}
 use Prim.Native.Nat.{ℕ, suc, _+_, _-_, _/_, _≤_, _<_, min}
 use lib.Dec.{leb}
 use lib.ListN.{length, getD, take, drop}
-use Rattle.shape.specs.Nested.{total}
+use Rattle.lists.specs.Sums.{total}
 
 -- where a node is cut in two
 abbrev pub middle : {A : Type 0} → List A → ℕ

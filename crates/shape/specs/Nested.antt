@@ -1,7 +1,8 @@
 -- Nested lists of one depth, which is all that a tree is: a node is a list, and all leaves stand at level 0.
-use mathlib.Core.List.{List, [], _∷_, _++_}
-use Prim.Native.Nat.{ℕ, zero, suc, _+_}
+use mathlib.Core.List.{List}
+use Prim.Native.Nat.{ℕ, zero, suc}
 use lib.ListN.{length}
+use Rattle.lists.specs.Joins.{joined}
 
 -- what a node of level h is a list of: marks in a leaf, nodes of the level below in a branch
 abbrev pub Item : ℕ → Type 0
@@ -11,16 +12,6 @@ Item (suc h) = List (Item h)
 -- a node of level h, which is an item of the level above
 abbrev pub Node : ℕ → Type 0
 Node h = List (Item h)
-
--- the lists that f gives for the items, one after the other
-abbrev pub joined : {A : Type 0} → (A → List ℕ) → List A → List ℕ
-joined f [] = []
-joined f (x ∷ xs) = f x ++ joined f xs
-
--- the sum of what f gives for the items
-abbrev pub total : {A : Type 0} → (A → ℕ) → List A → ℕ
-total f [] = 0
-total f (x ∷ xs) = f x + total f xs
 
 -- the marks of a node, from left to right
 abbrev pub flat : (h : ℕ) → Node h → List ℕ

@@ -3,7 +3,8 @@ use mathlib.Core.Path.{_≡_}
 use mathlib.Core.List.{List, [], _∷_, _++_}
 use Prim.Native.Nat.{ℕ, zero, suc, _+_, _-_, _≤_}
 use lib.ListN.{length, getD, take, drop}
-use Rattle.shape.specs.Nested.{Node, joined, flat}
+use Rattle.lists.specs.Joins.{joined}
+use Rattle.shape.specs.Nested.{Node, flat}
 use Rattle.shape.specs.Level.{seat, rest, chosen}
 use Rattle.shape.specs.Trees.{Tree}
 

@@ -1,5 +1,4 @@
 pub mod LastColumn
-pub mod Lists
 pub mod Passes
 pub mod Rules
 pub mod Texts

@@ -5,8 +5,8 @@ use mathlib.Core.List.{List}
 use Prim.Native.Nat.{ℕ, _+_, _≤_, _<_}
 use borrow.Author.Tests.{eq-eqb, ne-eqb}
 use lib.ListN.{length, getD, drop, drop-of-length-le}
+use Rattle.lists.proofs.Cuts.{drop-next}
 use Rattle.text_fixed_form.specs.Mark.{blank, allBlank, isOutside, anyOutside}
-use Rattle.text_fixed_form.proofs.Lists.{drop-next}
 
 module _ (line : List ℕ) (i : ℕ) where
   -- past the last column

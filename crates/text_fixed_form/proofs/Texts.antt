@@ -8,8 +8,8 @@ use borrow.Author.Tests.{eq-eqb, ne-eqb}
 use lib.Dec.{eqb, eqb·zero-suc, eqb·suc-suc}
 use lib.ListN.{length, getD, drop, drop-of-length-le}
 use lib.Seq.{drop-length}
+use Rattle.lists.proofs.Cuts.{drop-next}
 use Rattle.text_fixed_form.specs.Mark.{blank, withoutBlanks, upperCase, text, begins}
-use Rattle.text_fixed_form.proofs.Lists.{drop-next}
 
 -- where there is no text, it began with the word if all of that has been met
 begins-nothing : (word : List ℕ) (k : ℕ) → k ≤ length word → begins (drop k word) [] ≡ eqb k (length word)

@@ -4,10 +4,10 @@ use mathlib.Core.Path.{_≡_, refl, ap, sym, _∙_}
 use mathlib.Core.List.{List, [], _∷_, _++_, append-assoc}
 use Prim.Native.Nat.{ℕ, _+_, _-_, _^_, _≤_, _<_}
 use native.Mathlib.Omega.{arith}
-use lib.ListN.{length, take, drop, length-drop}
+use lib.ListN.{length, take, drop}
 use mir.Syntax.{w64}
 use mir.Val.{Fits}
-use lib.Seq.{take-all}
+use Rattle.lists.proofs.Cuts.{length-rest}
 use Rattle.text_lines.specs.Lines.{ended, left, lastLine, linesOf, joinedChunks, linesOfChunks}
 use Rattle.text_lines.proofs.Cut.{ended-append, left-append}
 
@@ -24,13 +24,6 @@ chunks-after r g (c ∷ cs) =
 pub chunks-lines : (r : Bool) (chunks : List (List ℕ)) → linesOfChunks r [] chunks ≡ linesOf r (joinedChunks chunks)
 unfolding linesOf
 chunks-lines r chunks = chunks-after r [] chunks
-
--- the part of a chunk from a place on, as code lends it
-pub rest-is : (chunk : List ℕ) (at : ℕ) → take (length chunk - at) (drop at chunk) ≡ drop at chunk
-rest-is chunk at = take-all (length chunk - at) (drop at chunk) (omega (arith, length-drop at chunk))
-
-pub length-rest : (chunk : List ℕ) (at : ℕ) → length (take (length chunk - at) (drop at chunk)) ≡ length chunk - at
-length-rest chunk at = ap length (rest-is chunk at) ∙ length-drop at chunk
 
 -- a step from a place takes some of the rest: it stays within the chunk, and less is left
 module _ (chunk : List ℕ) (at : ℕ) where

@@ -4,9 +4,9 @@ use mathlib.Core.Path.{_≡_, refl, ap, sym, _∙_}
 use mathlib.Core.List.{List, [], _∷_, _++_, append-assoc, append-nil}
 use Prim.Native.Nat.{ℕ, _+_, _-_, _≤_, _<_}
 use native.Mathlib.Omega.{arith}
-use native.Mathlib.Numerals.{add-one}
 use lib.ListN.{length, getD, take}
-use lib.Seq.{take-suc}
+use Rattle.lists.proofs.Cuts.{take-next}
+use Rattle.lists.proofs.Items.{all-append}
 use Rattle.text_lines.specs.declared.Gathered.{Gathered}
 use Rattle.text_lines.specs.Lines.{lineFeed, Plain, Stands, Accepts, Gathers}
 
@@ -16,15 +16,6 @@ pub record Passed (returns : Bool) (bytes : List ℕ) (before : Gathered) (keep 
   pub plain : Plain (take i bytes)
   pub same : length keep' ≡ length keep
   pub stands : (gathered : List ℕ) → Stands returns gathered before keep → Stands returns (gathered ++ take i bytes) line keep'
-
--- a piece without a line feed and a byte that is none
-plain-snoc : (xs : List ℕ) (b : ℕ) → Plain xs → (b ≡ lineFeed → ⊥) → Plain (xs ++ (b ∷ []))
-plain-snoc [] b p h = (h, tt)
-plain-snoc (x ∷ xs) b p h = (p .0, plain-snoc xs b (p .1) h)
-
--- one byte more is taken
-take-more : (bytes : List ℕ) (i : ℕ) → i < length bytes → take (i + 1) bytes ≡ take i bytes ++ (getD bytes i 0 ∷ [])
-take-more bytes i h = rw add-one (take-suc bytes i 0 h)
 
 module _ (r : Bool) (bytes : List ℕ) (before : Gathered) (keep : List ℕ) where
   -- no byte has been passed
@@ -44,10 +35,10 @@ module _ (r : Bool) (bytes : List ℕ) (before : Gathered) (keep : List ℕ) whe
     passed-more line' keep'' inside other a =
         record {
           within = omega arith;
-          plain = rw (take-more bytes i inside) (plain-snoc (take i bytes) (getD bytes i 0) (passed .plain) other);
+          plain = rw (take-next bytes i inside) (all-append _ (take i bytes) (getD bytes i 0 ∷ []) (passed .plain) (other, tt));
           same = a .same ∙ passed .same;
           stands = λ g h.
-              rw (take-more bytes i inside, ← append-assoc g (take i bytes) (getD bytes i 0 ∷ []))
+              rw (take-next bytes i inside, ← append-assoc g (take i bytes) (getD bytes i 0 ∷ []))
               (a .stands (g ++ take i bytes) (passed .stands g h));
         }
 
@@ -58,7 +49,7 @@ module _ (r : Bool) (bytes : List ℕ) (before : Gathered) (keep : List ℕ) whe
         let back : i + 1 - 1 ≡ i = omega arith in
         record {
           plain = rw back (passed .plain);
-          taken = rw back (take-more bytes i inside ∙ ap (λ (b : ℕ). take i bytes ++ (b ∷ [])) feed);
+          taken = rw back (take-next bytes i inside ∙ ap (λ (b : ℕ). take i bytes ++ (b ∷ [])) feed);
           all = λ e. absurd (false≢true (sym e));
           within = omega arith;
           onward = λ some. omega arith;

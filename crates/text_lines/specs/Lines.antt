@@ -5,6 +5,8 @@ use mathlib.Core.List.{List, [], _∷_, _++_}
 use Prim.Native.Nat.{ℕ, _-_, _^_, _≤_, _<_, min}
 use lib.Dec.{eqb}
 use lib.ListN.{length, getD, take}
+use Rattle.lists.specs.Items.{All}
+use Rattle.lists.specs.Joins.{joined}
 use Rattle.text_lines.specs.declared.Gathered.{Gathered}
 use Rattle.text_lines.specs.declared.Gathering.{Gathering}
 
@@ -46,8 +48,7 @@ linesOf returns input = ended returns [] input ++ lastLine (left [] input)
 
 -- the chunks put together
 unfoldable pub joinedChunks : List (List ℕ) → List ℕ
-joinedChunks [] = []
-joinedChunks (chunk ∷ chunks) = chunk ++ joinedChunks chunks
+joinedChunks chunks = joined (λ chunk. chunk) chunks
 
 -- the lines that the chunks give one after the other, where `gathered` are the bytes that came since the last line feed
 unfoldable pub linesOfChunks : Bool → List ℕ → List (List ℕ) → List (List ℕ)
@@ -57,8 +58,7 @@ linesOfChunks returns gathered (chunk ∷ chunks) =
 
 -- no line feed is among the bytes
 abbrev pub Plain : List ℕ → Type 0
-Plain [] = Unit {0}
-Plain (b ∷ bs) = (b ≡ lineFeed → ⊥) × Plain bs
+Plain bytes = All (λ b. b ≡ lineFeed → ⊥) bytes
 
 -- the largest length that a state tells: a longer line counts as this long
 abbrev pub mostLength : ℕ

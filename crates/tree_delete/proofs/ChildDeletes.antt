@@ -7,6 +7,10 @@ use native.Mathlib.Omega.{arith}
 use lib.ListN.{length, take, drop, length-append}
 use Rattle.geometry.specs.Layout.{leastBranch, mostBranch}
 use Rattle.geometry.specs.Limits.{mostAlphabet}
+use Rattle.lists.proofs.Froms.{from-same, map-from}
+use Rattle.lists.proofs.Sums.{sumBelow-two, sumBelow-change}
+use Rattle.lists.specs.Froms.{from}
+use Rattle.lists.specs.Sums.{sumBelow}
 use Rattle.sequence.proofs.Alphabets.{allBelow-access}
 use Rattle.sequence.proofs.Counts.{isMark-same}
 use Rattle.sequence.proofs.Edits.{length-delete, count-delete}
@@ -17,21 +21,19 @@ use Rattle.shape.proofs.Marks.{deleteNode-marks}
 use Rattle.shape.proofs.Steps.{deleteNode-takes, access-takes}
 use Rattle.shape.specs.Fill.{Within}
 use Rattle.shape.specs.Level.{mend}
+use Rattle.shape.specs.Level.{mend}
 use Rattle.shape.specs.Nested.{Node, flat, marksIn}
 use Rattle.shape.specs.Sizes.{oneToAByte, least, most}
 use Rattle.shape.specs.Trees.{deleteNode}
-use Rattle.pool.proofs.Changed.{only-then, only-wider}
-use Rattle.pool.proofs.Children.{shape-around, shape-before, shape-after, told-all, count-blocks}
-use Rattle.pool.proofs.Frames.{same-entries, same-link, same-marksBelow, same-countBelow, same-block}
-use Rattle.pool.proofs.Froms.{from-same, map-from}
 use Rattle.pool.proofs.SoundTrees.{sound-marks}
-use Rattle.pool.proofs.Sums.{sumBelow-two, sumBelow-change}
 use Rattle.pool.specs.Blocks.{entries, link, marksBelow}
-use Rattle.pool.specs.Bytes.{from}
 use Rattle.pool.specs.Changes.{SameBlock, Only}
 use Rattle.pool.specs.Sound.{Tells}
 use Rattle.pool.specs.Trees.{shapeAt, blocksAt}
-use Rattle.sequence.specs.Alphabet.{sumBelow}
+use Rattle.pool_entries.proofs.SeatedChildren.{seated-range}
+use Rattle.pool.proofs.Changes.{only-then, only-wider}
+use Rattle.pool.proofs.Trees.{shape-around, shape-before, shape-after, told-all, count-blocks}
+use Rattle.pool.proofs.TreesKept.{same-entries, same-link, same-marksBelow, same-countBelow, same-block}
 use Rattle.pool_entries.proofs.SeatedChildren.{seated-range}
 use Rattle.pool_entries.proofs.Telling.{entry-tells}
 use Rattle.pool_entries.specs.Seats.{Seated}

@@ -5,18 +5,18 @@ use Prim.Native.Nat.{ℕ, zero, suc, _≤_}
 use native.Mathlib.Omega.{arith}
 use Rattle.geometry.specs.Limits.{mostAlphabet}
 use Rattle.sequence.specs.Definition1.{count}
+use Rattle.sequence.proofs.Counts.{standing-all}
 use Rattle.shape.proofs.Filled.{root-least}
 use Rattle.shape.proofs.Instances.{oneToAByte-proper}
 use Rattle.shape.specs.Sizes.{oneToAByte, least}
-use Rattle.pool.proofs.Children.{blocks-root}
-use Rattle.pool.proofs.Distincts.{standing-all}
-use Rattle.pool.proofs.Frames.{shape-kept, blocks-kept, below-kept, same-block}
 use Rattle.pool.proofs.SoundTrees.{sound-readable}
 use Rattle.pool.proofs.Ways.{Readable}
 use Rattle.pool.specs.Blocks.{link}
 use Rattle.pool.specs.Changes.{SameBlock, Only}
 use Rattle.pool.specs.Trees.{shapeAt, blocksAt}
 use Rattle.pool.specs.Untouched.{SameBlocks}
+use Rattle.pool.proofs.Trees.{blocks-root}
+use Rattle.pool.proofs.TreesKept.{shape-kept, blocks-kept, below-kept, same-block}
 use Rattle.tree_delete.specs.Mends.{SoundPart}
 
 part-readable : (p : List ℕ) (fewest h x : ℕ) → 1 ≤ fewest → SoundPart p fewest h x → Readable p h x

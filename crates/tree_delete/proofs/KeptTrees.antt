@@ -1,10 +1,10 @@
 -- Entries whose children's trees a change leaves alone: they stay good, and their shapes and blocks are as before.
 use mathlib.Core.List.{List}
 use Prim.Native.Nat.{ℕ, _≤_}
-use Rattle.sequence.proofs.Items.{all-map}
+use Rattle.lists.proofs.Items.{all-map}
+use Rattle.lists.specs.Items.{All}
+use Rattle.lists.specs.Joins.{joined}
 use Rattle.sequence.specs.Definition1.{count}
-use Rattle.sequence.specs.Items.{All}
-use Rattle.shape.specs.Nested.{joined}
 use Rattle.pool.specs.Changes.{Only}
 use Rattle.pool_blocks.specs.Contents.{linkIn}
 use Rattle.tree_splits.specs.Entries.{TrueEntry, SoundChild}

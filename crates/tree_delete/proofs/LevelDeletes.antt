@@ -8,8 +8,8 @@ use Rattle.geometry.specs.Layout.{leastBranch}
 use Rattle.geometry.specs.Limits.{mostAlphabet}
 use Rattle.sequence.proofs.Edits.{allBelow-delete}
 use Rattle.shape.specs.Trees.{deleteNode}
-use Rattle.pool.proofs.Changed.{only-wider}
 use Rattle.pool.specs.Blocks.{entries, leafMarks, link, marksBelow}
+use Rattle.pool.proofs.Changes.{only-wider}
 use Rattle.pool_blocks.specs.Leaves.{MarkDeleted}
 use Rattle.pool_entries.proofs.Levels.{at-leaf, at-branch}
 use Rattle.pool_entries.specs.Summaries.{Is}

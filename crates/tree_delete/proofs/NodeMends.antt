@@ -7,28 +7,29 @@ use native.Mathlib.Omega.{arith}
 use lib.ListN.{length, take, drop, length-append, length-map, take-append-drop}
 use Rattle.geometry.specs.Layout.{mostLeaf, mostBranch}
 use Rattle.geometry.specs.Limits.{mostAlphabet}
-use Rattle.sequence.proofs.Counts.{isMark-same}
-use Rattle.sequence.proofs.Items.{all-append, all-take, all-drop}
-use Rattle.sequence.proofs.Measures.{count-additive}
+use Rattle.lists.proofs.Items.{all-append, all-take, all-drop}
+use Rattle.lists.proofs.Joins.{joined-append}
+use Rattle.lists.proofs.Mapped.{map-append}
+use Rattle.lists.specs.Items.{All}
+use Rattle.lists.specs.Joins.{joined}
+use Rattle.sequence.proofs.Counts.{isMark-same, count-additive}
 use Rattle.sequence.specs.Definition1.{isMark, count}
-use Rattle.sequence.specs.Items.{All}
 use Rattle.shape.proofs.Chop.{chop-fits, chop-halves}
-use Rattle.shape.proofs.Folds.{joined-append}
 use Rattle.shape.specs.Level.{middle, halves, chop}
-use Rattle.shape.specs.Nested.{joined}
 use Rattle.shape.specs.Sizes.{oneToAByte, most}
-use Rattle.pool.proofs.Changed.{only-wider}
-use Rattle.pool.proofs.Leaves.{length-leaf}
 use Rattle.pool.specs.Blocks.{entries, leafMarks}
 use Rattle.pool.specs.Changes.{Only}
 use Rattle.pool.specs.Trees.{shapeAt, blocksAt}
+use Rattle.pool.proofs.Blocks.{length-leaf}
+use Rattle.pool.proofs.Changes.{only-wider}
 use Rattle.pool_blocks.proofs.Branches.{entries-length}
 use Rattle.pool_blocks.specs.Branches.{BranchesJoined, BranchesShared}
 use Rattle.pool_blocks.specs.Contents.{entryList}
 use Rattle.pool_blocks.specs.Leaves.{LeavesJoined, LeavesShared}
 use Rattle.tree_splits.proofs.GoodEntries.{GoodEntry, shapeIn, blocksIn, below-good, good-below, shape-entries, blocks-entries}
-use Rattle.tree_splits.proofs.Pieces.{map-append, map-chop}
+use Rattle.tree_splits.proofs.Pieces.{map-chop}
 use Rattle.tree_splits.proofs.SoundBlocks.{block-written}
+use Rattle.tree_splits.proofs.Pieces.{map-chop}
 use Rattle.tree_delete.specs.Mends.{TwoNodes, NodesJoined, NodesShared}
 use Rattle.tree_delete.proofs.KeptTrees.{kept-entries}
 

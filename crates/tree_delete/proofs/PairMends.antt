@@ -1,42 +1,35 @@
 -- Two neighbours mended in their parent. What the two became and the entries written for it, one or two, decide all the rest:
 -- the other children's trees are as before, and so is what their entries say.
 use mathlib.Core.Path.{_≡_, refl, sym, ap, ap₂, subst, _∙_}
-use mathlib.Core.List.{List, [], _∷_, _++_, map}
+use mathlib.Core.List.{List, [], _++_, map}
 use mathlib.Core.Logic.{_⊎_, ⊎-elim}
 use Prim.Native.Nat.{ℕ, zero, suc, _+_, _-_, _≤_, _<_}
 use native.Mathlib.Omega.{arith}
 use lib.ListN.{length, getD, take, drop, length-append, length-map, length-take, length-drop}
 use Rattle.geometry.specs.Layout.{formMarks}
-use Rattle.sequence.proofs.Counts.{isMark-same}
-use Rattle.sequence.proofs.Items.{all-append}
-use Rattle.sequence.proofs.Measures.{count-additive}
+use Rattle.lists.proofs.Cuts.{split-two}
+use Rattle.lists.proofs.Items.{all-append, all-both}
+use Rattle.lists.proofs.Joins.{joined-append, joined-map}
+use Rattle.lists.proofs.Mapped.{all-unmapped, map-append, map-take, map-drop, map-twice}
+use Rattle.lists.specs.Items.{All}
+use Rattle.lists.specs.Joins.{joined}
+use Rattle.sequence.proofs.Counts.{isMark-same, count-additive}
 use Rattle.sequence.specs.Definition1.{isMark, count}
-use Rattle.sequence.specs.Items.{All}
 use Rattle.shape.proofs.Chop.{chop-one-or-two}
-use Rattle.shape.proofs.Folds.{joined-append}
 use Rattle.shape.specs.Level.{chop}
-use Rattle.shape.specs.Nested.{Node, joined}
+use Rattle.shape.specs.Nested.{Node}
 use Rattle.shape.specs.Sizes.{oneToAByte, most}
-use Rattle.pool.proofs.Changed.{only-wider, only-either}
-use Rattle.pool.proofs.Lists.{joined-map}
 use Rattle.pool.specs.Blocks.{formOf, entries, link}
 use Rattle.pool.specs.Changes.{Only}
 use Rattle.pool.specs.Trees.{shapeAt, blocksAt}
+use Rattle.pool.proofs.Changes.{only-wider, only-either}
 use Rattle.pool_blocks.proofs.Branches.{entry-link, entry-at, entries-length}
 use Rattle.pool_blocks.specs.Contents.{linkIn, entryList}
 use Rattle.pool_holders.specs.Maps.{isFree, Freed}
 use Rattle.tree_splits.specs.Entries.{TrueEntry, SoundChild}
 use Rattle.tree_splits.proofs.GoodEntries.{GoodEntry, shapeIn, blocksIn, good-below, shape-entries, blocks-entries}
-use Rattle.tree_splits.proofs.Pieces.{all-both, all-unmapped, map-append, map-take, map-drop, map-twice}
 use Rattle.tree_delete.specs.Mends.{TwoNodes, NodesMended, PairReady, pairShape, PairMended}
 use Rattle.tree_delete.proofs.KeptTrees.{all-good, kept-entries}
-
--- a list around two items that stand side by side
-pub split-two : {A : Type 0} (d : A) (xs : List A) (k : ℕ) → suc k < length xs → xs ≡ take k xs ++ getD xs k d ∷ getD xs (suc k) d ∷ drop (suc (suc k)) xs
-split-two d [] k inside = absurd (omega arith)
-split-two d (x ∷ []) k inside = absurd (omega arith)
-split-two d (x ∷ y ∷ xs) zero inside = refl
-split-two d (x ∷ y ∷ xs) (suc k) inside = ap (λ l. x ∷ l) (split-two d (y ∷ xs) k (omega arith))
 
 -- a block is the first of its tree
 pub own-block : (p : List ℕ) (h b : ℕ) → 1 ≤ count b (blocksAt p h b)

@@ -2,27 +2,30 @@
 use mathlib.Core.Path.{_≡_, refl, sym, ap, ap₂, subst, _∙_}
 use mathlib.Core.List.{List, [], _∷_, _++_, append-assoc}
 use mathlib.Core.Logic.{⊎-elim}
-use Prim.Native.Nat.{ℕ, zero, suc, _+_, _≤_, _<_}
+use Prim.Native.Nat.{ℕ, suc, _+_, _≤_, _<_}
+use native.Mathlib.Numerals.{add-one}
 use native.Mathlib.Omega.{arith}
 use lib.ListN.{length, take, drop, length-append, length-take}
+use lib.Seq.{take-append-add, drop-append-add, drop-drop}
 use Rattle.geometry.specs.Layout.{formMarks, mostBranch}
+use Rattle.lists.proofs.Sums.{total-map}
+use Rattle.lists.specs.Sums.{total}
 use Rattle.sequence.proofs.Counts.{isMark-same}
 use Rattle.sequence.specs.Definition1.{count}
 use Rattle.shape.proofs.Chop.{total-chop}
-use Rattle.shape.proofs.Folds.{flat-append}
-use Rattle.shape.specs.Nested.{Node, total, flat, marksIn}
+use Rattle.shape.proofs.Nested.{flat-append}
+use Rattle.shape.specs.Nested.{Node, flat, marksIn}
 use Rattle.shape.specs.Sizes.{oneToAByte, most}
-use Rattle.pool.proofs.Changed.{only-then}
-use Rattle.pool.proofs.Frames.{same-byte, same-entries}
-use Rattle.pool.proofs.Lists.{total-map}
 use Rattle.pool.specs.Blocks.{formOf, entries, link}
 use Rattle.pool.specs.Changes.{SameBlock}
 use Rattle.pool.specs.Trees.{shapeAt, blocksAt}
 use Rattle.pool.specs.Words.{wordLimit}
+use Rattle.pool.proofs.Changes.{only-then}
+use Rattle.pool.proofs.TreesKept.{same-byte, same-entries}
+use Rattle.pool_entries.proofs.Entries.{entries-kept, form-kept, only-entry}
 use Rattle.pool_blocks.proofs.Branches.{entry-written, entries-length}
 use Rattle.pool_blocks.specs.Branches.{EntryRemoved}
 use Rattle.pool_blocks.specs.Contents.{entryBytes, entryList, BranchAt}
-use Rattle.pool_entries.proofs.Neighbours.{entries-kept, form-kept, only-entry}
 use Rattle.pool_entries.specs.Entries.{PutEntry}
 use Rattle.pool_entries.specs.Summaries.{SummaryOf, SmallSums}
 use Rattle.pool_entries.specs.declared.Summary.{Summary}
@@ -33,25 +36,6 @@ use Rattle.tree_splits.proofs.SameEntries.{same-entry-list}
 use Rattle.tree_splits.proofs.TakeUps.{holds-true, sums-small}
 use Rattle.tree_delete.specs.Mends.{TwoNodes, NodesMended, NodesJoined, NodesShared, PairOf, PairMended}
 use Rattle.tree_delete.proofs.PairMends.{own-block, all-blocks, pair-nodes, right-held, pair-mended}
-
--- the items up to the one in the middle, and those behind the next
-module _ {A : Type 0} where
-  take-next : (xs : List A) (y : A) (ys : List A) (k : ℕ) → length xs ≡ k → take (suc k) (xs ++ y ∷ ys) ≡ xs ++ y ∷ []
-  take-next [] y ys zero e = refl
-  take-next [] y ys (suc k) e = absurd (omega arith)
-  take-next (x ∷ xs) y ys zero e = absurd (omega arith)
-  take-next (x ∷ xs) y ys (suc k) e = ap (λ l. x ∷ l) (take-next xs y ys k (omega arith))
-
-  drop-next : (xs : List A) (y : A) (ys : List A) (k : ℕ) → length xs ≡ k → drop (suc (suc k)) (xs ++ y ∷ ys) ≡ drop 1 ys
-  drop-next [] y ys zero e = refl
-  drop-next [] y ys (suc k) e = absurd (omega arith)
-  drop-next (x ∷ xs) y ys zero e = absurd (omega arith)
-  drop-next (x ∷ xs) y ys (suc k) e = drop-next xs y ys k (omega arith)
-
-  drop-one : (k : ℕ) (xs : List A) → drop 1 (drop k xs) ≡ drop (suc k) xs
-  drop-one zero xs = refl
-  drop-one (suc k) [] = refl
-  drop-one (suc k) (x ∷ xs) = drop-one k xs
 
 marks-additive : (h : ℕ) (x y : Node h) → marksIn h (x ++ y) ≡ marksIn h x + marksIn h y
 marks-additive h x y = ap length (flat-append h x y) ∙ length-append (flat h x) (flat h y)
@@ -123,14 +107,16 @@ module _ (p m : List ℕ) (h b k left right : ℕ) (pair : PairOf p m h b k left
 
       before-next : take (k + 1) (entryList r b) ≡ take k (entryList p b) ++ entryBytes r b k ∷ []
       before-next =
-          let e : k + 1 ≡ suc k = omega arith in
-          ap₂ (λ (j : ℕ) (es : List (List ℕ)). take j es) e written ∙ take-next (take k (entryList p b)) (entryBytes r b k) (drop (suc k) (entryList p b)) k front-long
+          let e : k + 1 ≡ length (take k (entryList p b)) + 1 = omega (arith, front-long) in
+          ap₂ (λ (j : ℕ) (es : List (List ℕ)). take j es) e written
+          ∙ take-append-add (take k (entryList p b)) (entryBytes r b k ∷ drop (suc k) (entryList p b)) 1
 
       behind-next : (j : ℕ) → j ≡ suc (suc k) → drop j (entryList r b) ≡ drop (suc (suc k)) (entryList p b)
-      behind-next j e =
+      behind-next j is =
+          let e : j ≡ length (take k (entryList p b)) + 2 = omega (arith, front-long) in
           ap₂ (λ (i : ℕ) (es : List (List ℕ)). drop i es) e written
-          ∙ drop-next (take k (entryList p b)) (entryBytes r b k) (drop (suc k) (entryList p b)) k front-long
-          ∙ drop-one (suc k) (entryList p b)
+          ∙ drop-append-add (take k (entryList p b)) (entryBytes r b k ∷ drop (suc k) (entryList p b)) 2
+          ∙ drop-drop 1 (suc k) (entryList p b) ∙ ap (λ (i : ℕ). drop i (entryList p b)) (add-one (suc k))
 
 -- Joined.
 module _ (p m : List ℕ) (h b k left right : ℕ) (pair : PairOf p m h b k left right) (q : List ℕ) (joined : NodesJoined h left right p q) where

@@ -5,17 +5,17 @@ use mathlib.Core.List.{List, [], _∷_, map}
 use Prim.Native.Nat.{ℕ, zero, suc, _+_, _-_, _≤_, _<_}
 use native.Mathlib.Omega.{arith}
 use lib.ListN.{length}
-use Rattle.sequence.specs.Alphabet.{sumBelow}
+use Rattle.lists.specs.Froms.{from}
+use Rattle.lists.specs.Sums.{sumBelow}
 use Rattle.sequence.specs.Definition1.{isMark, count}
 use Rattle.shape.proofs.Filled.{root-least}
 use Rattle.shape.proofs.Instances.{oneToAByte-proper}
 use Rattle.shape.specs.Nested.{Node}
 use Rattle.shape.specs.Sizes.{oneToAByte}
 use Rattle.shape.specs.Trees.{shrunk, deleteT}
-use Rattle.pool.proofs.Children.{length-shape, count-blocks}
 use Rattle.pool.specs.Blocks.{entries, link}
-use Rattle.pool.specs.Bytes.{from}
 use Rattle.pool.specs.Trees.{shapeAt, blocksAt}
+use Rattle.pool.proofs.Trees.{length-shape, count-blocks}
 use Rattle.pool_entries.proofs.Levels.{at-leaf, at-branch}
 use Rattle.pool_entries.specs.Summaries.{Is}
 use Rattle.pool_holders.specs.Maps.{isFree, GivenBack}

@@ -5,25 +5,27 @@ use mathlib.Core.Logic.{⊎-elim}
 use Prim.Native.Nat.{ℕ, suc, _+_, _-_, _≤_, _<_}
 use native.Mathlib.Omega.{arith}
 use Rattle.geometry.specs.Layout.{mostBranch}
+use Rattle.lists.proofs.Froms.{all-from, from-same}
+use Rattle.lists.proofs.Joins.{joined-same}
+use Rattle.lists.proofs.Mapped.{map-same}
+use Rattle.lists.proofs.Sums.{sumBelow-one}
+use Rattle.lists.specs.Froms.{from}
+use Rattle.lists.specs.Joins.{joined}
 use Rattle.sequence.proofs.Counts.{isMark-same, isMark-other, isMark-cases}
 use Rattle.sequence.specs.Definition1.{count}
 use Rattle.shape.proofs.Filled.{least-two}
 use Rattle.shape.proofs.Instances.{oneToAByte-proper}
 use Rattle.shape.specs.Level.{mend}
-use Rattle.shape.specs.Nested.{joined, marksIn}
+use Rattle.shape.specs.Nested.{marksIn}
 use Rattle.shape.specs.Sizes.{oneToAByte, least, most}
-use Rattle.pool.proofs.Changed.{only-then, only-wider}
-use Rattle.pool.proofs.Children.{count-blocks}
-use Rattle.pool.proofs.Froms.{all-from, from-same}
-use Rattle.pool.proofs.Lists.{joined-same, map-same}
-use Rattle.pool.proofs.Sums.{sumBelow-one}
 use Rattle.pool.specs.Blocks.{entries, link, marksBelow, countBelow, children}
-use Rattle.pool.specs.Bytes.{from}
 use Rattle.pool.specs.Changes.{Only}
 use Rattle.pool.specs.Trees.{shapeAt, blocksAt}
-use Rattle.pool_entries.proofs.Neighbours.{link-apart, entries-kept, form-kept, only-entry}
+use Rattle.pool.proofs.Changes.{only-then, only-wider}
+use Rattle.pool.proofs.Trees.{count-blocks}
 use Rattle.pool_entries.proofs.Telling.{entry-tells, apart-tells}
 use Rattle.pool_entries.specs.Entries.{TakeMark}
+use Rattle.pool_entries.proofs.Entries.{link-apart, entries-kept, form-kept, only-entry}
 use Rattle.pool_holders.specs.Maps.{isFree}
 use Rattle.pool_holders.proofs.Maps.{fits-after}
 use Rattle.tree_splits.proofs.SoundBlocks.{block-least, block-written}

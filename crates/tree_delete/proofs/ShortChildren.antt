@@ -5,24 +5,25 @@ use mathlib.Core.Logic.{⊎-elim}
 use Prim.Native.Nat.{ℕ, zero, suc, _+_, _-_, _≤_, _<_}
 use native.Mathlib.Omega.{arith}
 use lib.ListN.{length, take, drop, length-append}
+use Rattle.lists.proofs.Cuts.{split-two}
+use Rattle.lists.proofs.Froms.{all-from, take-from, drop-from}
+use Rattle.lists.proofs.Mapped.{all-mapped}
+use Rattle.lists.proofs.Sums.{sumBelow-two}
+use Rattle.lists.specs.Froms.{from}
+use Rattle.lists.specs.Items.{All}
 use Rattle.sequence.proofs.Counts.{isMark-cases}
-use Rattle.sequence.specs.Items.{All}
 use Rattle.shape.proofs.Filled.{least-two}
 use Rattle.shape.proofs.Instances.{oneToAByte-proper}
 use Rattle.shape.proofs.Mend.{mend-none, mend-first, mend-left}
 use Rattle.shape.specs.Level.{mend}
 use Rattle.shape.specs.Nested.{Node, marksIn}
 use Rattle.shape.specs.Sizes.{oneToAByte, least, most}
-use Rattle.pool.proofs.Changed.{only-none}
-use Rattle.pool.proofs.Children.{length-shape, child-shape, shape-before, told-all}
-use Rattle.pool.proofs.Froms.{all-from, take-from, drop-from}
-use Rattle.pool.proofs.Leaves.{length-leaf}
-use Rattle.pool.proofs.Lists.{all-mapped}
-use Rattle.pool.proofs.Sums.{sumBelow-two}
 use Rattle.pool.specs.Blocks.{entries, link}
-use Rattle.pool.specs.Bytes.{from}
 use Rattle.pool.specs.Sound.{SoundBlock, Tells}
 use Rattle.pool.specs.Trees.{shapeAt}
+use Rattle.pool.proofs.Blocks.{length-leaf}
+use Rattle.pool.proofs.Changes.{only-none}
+use Rattle.pool.proofs.Trees.{length-shape, child-shape, shape-before, told-all}
 use Rattle.pool_blocks.proofs.Branches.{entry-link, entry-below, entry-count}
 use Rattle.pool_blocks.specs.Contents.{linkIn, entryBytes, entryList}
 use Rattle.pool_entries.specs.Summaries.{Is}
@@ -30,7 +31,6 @@ use Rattle.pool_holders.proofs.Frees.{freed-none}
 use Rattle.tree_splits.proofs.SoundBlocks.{block-least}
 use Rattle.tree_splits.specs.Entries.{TrueEntry, SoundChild}
 use Rattle.tree_delete.specs.Mends.{SoundPart, AllGood, PairReady, pairShape, PairMended, ShortReady, Mended}
-use Rattle.tree_delete.proofs.PairMends.{split-two}
 
 -- a node's entries are its shape's
 pub node-length : (p : List ℕ) (fewest h x : ℕ) → SoundBlock p fewest h x → length (shapeAt p h x) ≡ entries p x

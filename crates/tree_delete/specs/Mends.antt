@@ -6,10 +6,11 @@ use Prim.Native.Nat.{ℕ, suc, _+_, _-_, _≤_, _<_}
 use lib.ListN.{take, drop}
 use Rattle.geometry.specs.Layout.{leastBranch}
 use Rattle.geometry.specs.Limits.{mostAlphabet}
+use Rattle.lists.specs.Items.{All}
+use Rattle.lists.specs.Joins.{joined}
 use Rattle.sequence.specs.Definition1.{isMark, count}
-use Rattle.sequence.specs.Items.{All}
 use Rattle.shape.specs.Level.{chop, mend}
-use Rattle.shape.specs.Nested.{Node, joined, flat, marksIn}
+use Rattle.shape.specs.Nested.{Node, flat, marksIn}
 use Rattle.shape.specs.Sizes.{oneToAByte, least, most}
 use Rattle.pool.specs.Blocks.{entries, link, marksBelow, countBelow}
 use Rattle.pool.specs.Changes.{Only}

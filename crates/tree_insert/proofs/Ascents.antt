@@ -8,26 +8,26 @@ use lib.ListN.{length, getD, take, drop, length-map, length-append, length-take,
 use lib.Seq.{split-at}
 use Rattle.geometry.specs.Layout.{mostBranch}
 use Rattle.geometry.specs.Limits.{mostAlphabet}
-use Rattle.sequence.proofs.Counts.{cond-le-one}
-use Rattle.sequence.proofs.Items.{all-append, all-take, all-drop}
-use Rattle.sequence.proofs.Measures.{count-additive}
+use Rattle.lists.proofs.Items.{all-append, all-take, all-drop, all-both}
+use Rattle.lists.proofs.Joins.{joined-append, joined-map}
+use Rattle.lists.proofs.Mapped.{all-unmapped, map-append, map-take, map-drop, map-twice}
+use Rattle.lists.specs.Items.{All}
+use Rattle.lists.specs.Joins.{joined}
+use Rattle.sequence.proofs.Counts.{cond-le-one, count-additive}
 use Rattle.sequence.specs.Definition1.{isMark, count}
-use Rattle.sequence.specs.Items.{All}
-use Rattle.shape.proofs.Folds.{joined-append}
 use Rattle.shape.proofs.Instances.{oneToAByte-proper}
 use Rattle.shape.proofs.Splits.{insertNode-pieces}
 use Rattle.shape.proofs.Steps.{insertNode-takes}
 use Rattle.shape.specs.Blocks.{divides}
 use Rattle.shape.specs.Level.{chop}
-use Rattle.shape.specs.Nested.{Node, joined}
+use Rattle.shape.specs.Nested.{Node}
 use Rattle.shape.specs.Sizes.{oneToAByte}
 use Rattle.shape.specs.Trees.{insertNode}
-use Rattle.pool.proofs.Children.{shape-around}
-use Rattle.pool.proofs.Changed.{only-then, only-wider}
-use Rattle.pool.proofs.Lists.{joined-map}
 use Rattle.pool.proofs.SoundTrees.{sound-filled}
 use Rattle.pool.specs.Blocks.{entries, link, marksBelow}
 use Rattle.pool.specs.Trees.{shapeAt, blocksAt, pathAt}
+use Rattle.pool.proofs.Changes.{only-then, only-wider}
+use Rattle.pool.proofs.Trees.{shape-around}
 use Rattle.pool_blocks.proofs.Branches.{entry-link, entries-length, entry-at}
 use Rattle.pool_blocks.specs.Contents.{linkIn, entryList}
 use Rattle.pool_holders.specs.Maps.{isFree}
@@ -38,7 +38,6 @@ use Rattle.tree_splits.specs.Inserts.{roots, InsertReady, Inserted}
 use Rattle.tree_splits.specs.declared.Grown.{Grown}
 use Rattle.tree_splits.proofs.GoodEntries.{GoodEntry, shapeIn, blocksIn, below-good, shape-entries, blocks-entries}
 use Rattle.tree_splits.proofs.KeptLists.{KeptList, kept-list}
-use Rattle.tree_splits.proofs.Pieces.{all-both, all-unmapped, map-append, map-take, map-drop, map-twice}
 use Rattle.tree_splits.proofs.SameEntries.{same-entry-list}
 use Rattle.pool_entries.specs.Seats.{Seated}
 use Rattle.pool_entries.specs.declared.Seat.{Seat}

@@ -5,16 +5,19 @@ use mathlib.Core.List.{List}
 use Prim.Native.Nat.{ℕ, suc, _+_, _-_, _≤_, _<_}
 use native.Mathlib.Omega.{arith}
 use lib.ListN.{length, length-append}
-use Rattle.sequence.specs.Alphabet.{sumBelow}
+use lib.ListN.{length, length-append}
+use Rattle.lists.specs.Sums.{sumBelow}
 use Rattle.shape.proofs.Choice.{by-leb}
 use Rattle.shape.proofs.Steps.{splits-takes}
 use Rattle.shape.specs.Blocks.{divides, splits}
 use Rattle.shape.specs.Nested.{Node, marksIn}
 use Rattle.shape.specs.Sizes.{oneToAByte}
-use Rattle.pool.proofs.Children.{shape-around, told-all}
 use Rattle.pool.specs.Blocks.{entries, link, marksBelow}
 use Rattle.pool.specs.Trees.{shapeAt}
 use Rattle.tree_splits.proofs.ChosenChildren.{child-blocks, child-told, child-takes, before-total, child-short, child-root}
+use Rattle.shape.specs.Sizes.{oneToAByte}
+use Rattle.pool.specs.Trees.{shapeAt}
+use Rattle.pool.proofs.Trees.{shape-around, told-all}
 use Rattle.tree_splits.specs.Inserts.{InsertReady}
 use Rattle.pool_entries.proofs.Seats.{seated-left}
 use Rattle.pool_entries.specs.Seats.{Seated}

@@ -3,12 +3,12 @@ use mathlib.Core.Path.{subst}
 use mathlib.Core.List.{List}
 use Prim.Native.Nat.{ℕ, zero, suc, _≤_, _<_}
 use native.Mathlib.Omega.{arith}
-use Rattle.sequence.proofs.Items.{all-map}
-use Rattle.sequence.specs.Alphabet.{AllBelow}
-use Rattle.sequence.specs.Items.{All}
-use Rattle.shape.specs.Nested.{joined, flat}
-use Rattle.pool.proofs.Froms.{from-all}
-use Rattle.pool.proofs.Lists.{joined-all, joined-map}
+use Rattle.lists.proofs.Froms.{from-all}
+use Rattle.lists.proofs.Items.{all-map}
+use Rattle.lists.proofs.Joins.{joined-all, joined-map}
+use Rattle.lists.specs.Items.{AllBelow, All}
+use Rattle.lists.specs.Joins.{joined}
+use Rattle.shape.specs.Nested.{flat}
 use Rattle.pool.proofs.SoundTrees.{sound-marks}
 use Rattle.pool.specs.Blocks.{entries, link, children}
 use Rattle.pool.specs.Sound.{SoundBelow}

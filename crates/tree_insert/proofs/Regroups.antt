@@ -7,14 +7,16 @@ use native.Mathlib.Omega.{arith}
 use lib.ListN.{length, length-map}
 use Rattle.geometry.specs.Layout.{formMarks, leastBranch, mostBranch}
 use Rattle.geometry.specs.Limits.{mostAlphabet}
-use Rattle.sequence.proofs.Measures.{count-additive}
+use Rattle.lists.proofs.Items.{all-both}
+use Rattle.lists.proofs.Joins.{joined-append}
+use Rattle.lists.proofs.Mapped.{all-unmapped}
+use Rattle.lists.specs.Items.{All}
+use Rattle.lists.specs.Joins.{joined}
+use Rattle.sequence.proofs.Counts.{count-additive}
 use Rattle.sequence.specs.Definition1.{count}
-use Rattle.sequence.specs.Items.{All}
 use Rattle.shape.proofs.Chop.{joined-chop}
-use Rattle.shape.proofs.Folds.{joined-append}
 use Rattle.shape.specs.Fill.{Within}
 use Rattle.shape.specs.Level.{chop}
-use Rattle.shape.specs.Nested.{joined}
 use Rattle.pool.specs.Blocks.{formOf}
 use Rattle.pool.specs.Bytes.{shares}
 use Rattle.pool.specs.Sound.{SoundBlock, SoundBelow}
@@ -26,7 +28,7 @@ use Rattle.tree_splits.specs.Inserts.{roots, leastAfter}
 use Rattle.tree_splits.specs.declared.Grown.{Grown}
 use Rattle.tree_splits.proofs.GoodEntries.{GoodEntry, shapeIn, blocksIn, good-below, shape-entries, blocks-entries}
 use Rattle.tree_splits.proofs.KeptLists.{KeptList}
-use Rattle.tree_splits.proofs.Pieces.{all-both, all-unmapped, map-chop, all-chop, chop-sizes}
+use Rattle.tree_splits.proofs.Pieces.{map-chop, all-chop, chop-sizes}
 use Rattle.tree_insert.proofs.Siblings.{length-roots}
 
 module _ (t : List ℕ) (h : ℕ) where

@@ -8,32 +8,31 @@ use lib.Dec.{leb}
 use lib.ListN.{length, length-map, length-append}
 use Rattle.geometry.specs.Layout.{mostBranch}
 use Rattle.geometry.specs.Limits.{mostAlphabet}
-use Rattle.sequence.proofs.Counts.{isMark-same}
+use Rattle.lists.proofs.Items.{all-map}
+use Rattle.lists.proofs.Measures.{Additive}
+use Rattle.lists.proofs.Sums.{total-joined, total-map}
+use Rattle.lists.specs.Items.{All}
+use Rattle.lists.specs.Sums.{total}
+use Rattle.sequence.proofs.Counts.{isMark-same, count-additive, all-standing}
 use Rattle.sequence.proofs.Edits.{length-insert, count-insert}
-use Rattle.sequence.proofs.Items.{all-map}
-use Rattle.sequence.proofs.Measures.{Additive, count-additive}
 use Rattle.sequence.specs.Definition1.{count, insert}
-use Rattle.sequence.specs.Items.{All}
-use Rattle.shape.proofs.Folds.{total-joined}
 use Rattle.shape.proofs.Instances.{oneToAByte-proper}
 use Rattle.shape.proofs.Marks.{insertNode-marks}
 use Rattle.shape.proofs.Splits.{insertNode-pieces}
 use Rattle.shape.proofs.Steps.{divides-takes}
 use Rattle.shape.specs.Blocks.{divides}
 use Rattle.shape.specs.Fill.{rootLeast}
-use Rattle.shape.specs.Nested.{total, flat}
+use Rattle.shape.specs.Nested.{flat}
 use Rattle.shape.specs.Sizes.{oneToAByte, least}
 use Rattle.shape.specs.Trees.{insertNode}
-use Rattle.pool.proofs.Children.{length-shape, shape-around}
-use Rattle.pool.proofs.Distincts.{all-standing}
-use Rattle.pool.proofs.Frames.{same-byte, same-entries, same-link, same-marksBelow, same-countBelow}
-use Rattle.pool.proofs.Lists.{total-map}
 use Rattle.pool.proofs.SoundTrees.{sound-filled, sound-readable}
 use Rattle.pool.proofs.Ways.{path-among}
 use Rattle.pool.specs.Blocks.{entries, link, marksBelow}
 use Rattle.pool.specs.Changes.{SameBlock}
 use Rattle.pool.specs.Sound.{SoundBlock, SoundBelow, Tells}
 use Rattle.pool.specs.Trees.{shapeAt, blocksAt, pathAt}
+use Rattle.pool.proofs.Trees.{length-shape, shape-around}
+use Rattle.pool.proofs.TreesKept.{same-byte, same-entries, same-link, same-marksBelow, same-countBelow}
 use Rattle.pool_holders.specs.Maps.{isFree, freeIn}
 use Rattle.pool_holders.proofs.Maps.{fits-after}
 use Rattle.pool_holders.proofs.Takes.{entered-falls}

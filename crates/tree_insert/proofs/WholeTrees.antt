@@ -7,18 +7,19 @@ use native.Mathlib.Numerals.{add-one}
 use native.Mathlib.Omega.{arith}
 use lib.ListN.{length, length-append}
 use Rattle.geometry.specs.Limits.{mostAlphabet}
+use Rattle.lists.specs.Items.{All}
+use Rattle.lists.specs.Joins.{joined}
 use Rattle.sequence.proofs.Edits.{length-insert}
-use Rattle.sequence.proofs.Measures.{count-additive}
+use Rattle.sequence.proofs.Counts.{count-additive}
 use Rattle.sequence.specs.Definition1.{count}
-use Rattle.sequence.specs.Items.{All}
 use Rattle.shape.specs.Blocks.{divides}
-use Rattle.shape.specs.Nested.{Node, joined, flat}
+use Rattle.shape.specs.Nested.{Node, flat}
 use Rattle.shape.specs.Sizes.{oneToAByte, least}
 use Rattle.shape.specs.Trees.{grown, insertT}
-use Rattle.pool.proofs.Changed.{only-then, only-wider}
 use Rattle.pool.specs.Blocks.{entries}
 use Rattle.pool.specs.Sound.{SoundBlock, SoundBelow}
 use Rattle.pool.specs.Trees.{shapeAt, blocksAt, pathAt}
+use Rattle.pool.proofs.Changes.{only-then, only-wider}
 use Rattle.pool_holders.specs.Maps.{isFree, Agrees}
 use Rattle.pool_holders.proofs.Maps.{fits-after}
 use Rattle.pool_holders.proofs.Takes.{entered-then, entered-falls}

@@ -1,10 +1,12 @@
 -- How many marks c an open name has: what a root that is a leaf counts up to its last place, and what the entries of any other root say.
-use mathlib.Core.Path.{_≡_, refl, ap, ap₂, _∙_}
+use mathlib.Core.Path.{_≡_, refl, ap, _∙_}
 use mathlib.Core.List.{List}
 use Prim.Native.Nat.{ℕ, zero, suc, _+_, _-_, _*_, _^_, _≤_, _<_}
 use native.Mathlib.Omega.{arith}
 use lib.ListN.{length}
-use Rattle.pool_entries.proofs.Totals.{sum-counts}
+use Rattle.lists.proofs.Sums.{sum-more}
+use Rattle.lists.specs.Sums.{sumBelow}
+use Rattle.pool_entries.proofs.Summaries.{sum-counts}
 use Rattle.pool_entries.specs.Summaries.{Is, wordsAt}
 use Rattle.geometry.specs.Layout.{leastBranch, mostBranch, entryCountsAt, wordSize}
 use Rattle.geometry.specs.Limits.{mostAlphabet}
@@ -17,29 +19,21 @@ use Rattle.pool.specs.Trees.{shapeAt, ownCount}
 use Rattle.pool.specs.Words.{wordLimit}
 use Rattle.sequence.proofs.Counts.{count-le-length}
 use Rattle.sequence.proofs.Ranks.{rank-length}
-use Rattle.sequence.specs.Alphabet.{sumBelow}
 use Rattle.sequence.specs.Definition1.{count, rank}
 use Rattle.shape.specs.Fill.{rootLeast}
 use Rattle.shape.specs.Nested.{flat, marksIn}
 use Rattle.shape.specs.Trees.{marksT}
-use Rattle.tree_query.specs.Records.{OpenRecord, treeBy}
+use Rattle.tree_query.specs.Records.{OfOpenName, treeBy}
 use Rattle.tree_query.proofs.Records.{record-length}
 
 -- A branch.
-sum-last : (n : ℕ) (f : ℕ → ℕ) → 1 ≤ n → sumBelow (n - 1) f + f (n - 1) ≡ sumBelow n f
-unfolding sumBelow
-sum-last zero f some = absurd (omega arith)
-sum-last (suc n) f some =
-    let e : suc n - 1 ≡ n = omega arith in
-    rw e
-
 module _ (p : List ℕ) (b c many before last : ℕ) (size : Is (entries p b) many) (least : leastBranch ≤ entries p b)
     (added : before ≡ sumBelow (many - 1) (wordsAt p b (entryCountsAt + wordSize * c))) (told : Is (countBelow p b (many - 1) c) last) where
   pub branch-adds : before + last ≡ ownCount p 1 b c
   branch-adds =
-      ap₂ (λ m n. m + n) (added ∙ sum-counts p b c (many - 1)) (told .is)
-      ∙ sum-last many (λ k. countBelow p b k c) (omega (arith, size .is))
-      ∙ ap (λ (n : ℕ). sumBelow n (λ k. countBelow p b k c)) (size .is)
+      let e : many - 1 + 1 ≡ entries p b = omega (arith, size .is) in
+      sum-more (λ k. countBelow p b k c) (many - 1) before last (added ∙ sum-counts p b c (many - 1)) (told .is)
+      ∙ ap (λ (n : ℕ). sumBelow n (λ k. countBelow p b k c)) e
 
   pub branch-fits : ownCount p 1 b c < wordLimit → before + last < 2 ^ 64
   branch-fits small = omega (arith, branch-adds)
@@ -54,7 +48,7 @@ branch-own p alphabet zero b c branch low below = absurd (branch refl)
 branch-own p alphabet (suc h) b c branch low below = own-count p alphabet (suc h) b c low below
 
 -- A name, by its record.
-module _ (p : List ℕ) (r : Record) (o : OpenRecord p r) (c : ℕ) (low : c < mostAlphabet) where
+module _ (p : List ℕ) (r : Record) (o : OfOpenName p r) (c : ℕ) (low : c < mostAlphabet) where
   pub leaf-ready : r .length ≤ marksIn (r .height) (shapeAt p (r .height) (r .root))
   leaf-ready = omega (arith, record-length p r o)
 

@@ -4,6 +4,10 @@ use mathlib.Core.List.{List}
 use Prim.Native.Nat.{ℕ, suc, _+_, _-_, _*_, _^_, _≤_, _<_}
 use native.Mathlib.Omega.{arith}
 use lib.ListN.{length, length-append}
+use Rattle.lists.proofs.Sums.{sumBelow-one}
+use Rattle.lists.specs.Sums.{sumBelow}
+use Rattle.lists.proofs.Measures.{Additive}
+use Rattle.pool.proofs.Trees.{told-all}
 use Rattle.pool_blocks.specs.Contents.{LeafAt}
 use Rattle.pool_entries.proofs.Levels.{at-leaf, at-branch}
 use Rattle.pool_entries.proofs.SeatedChildren.{seated-range, seated-path}
@@ -15,11 +19,8 @@ use Rattle.pool.specs.Bytes.{shares}
 use Rattle.pool.specs.Sound.{SoundBlock}
 use Rattle.pool.specs.Trees.{shapeAt}
 use Rattle.pool.specs.Words.{wordLimit}
-use Rattle.pool.proofs.Children.{told-all}
-use Rattle.pool.proofs.Sums.{sumBelow-one}
-use Rattle.sequence.specs.Alphabet.{sumBelow}
 use Rattle.sequence.specs.Definition1.{count, access, rank, select}
-use Rattle.sequence.proofs.Measures.{Additive, count-additive}
+use Rattle.sequence.proofs.Counts.{count-additive}
 use Rattle.sequence.proofs.Ranks.{rank-le-place}
 use Rattle.sequence.proofs.Selects.{select-le-length}
 use Rattle.shape.specs.Nested.{flat, marksIn}

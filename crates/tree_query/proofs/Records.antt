@@ -16,7 +16,7 @@ use Rattle.pool.proofs.Written.{closed-record}
 use Rattle.shape.specs.Trees.{marksT}
 use Rattle.tree_query.specs.Answers.{FoundIn, FoundOf}
 use Rattle.tree_query.specs.Good.{Good}
-use Rattle.tree_query.specs.Records.{OpenRecord, treeBy}
+use Rattle.tree_query.specs.Records.{OfOpenName, treeBy}
 use Rattle.tree_query.proofs.Trees.{open-good}
 
 -- a name of a sound pool whose record says another kind than that of a closed one is open
@@ -27,10 +27,10 @@ open-by-kind p name r sound low is other =
     (λ (opened : OpenName p name). opened)
     (sound .each name low)
 
-pub open-record : (p : List ℕ) (name : ℕ) (r : Record) → OpenName p name → r ≡ recordOf p name → OpenRecord p r
+pub open-record : (p : List ℕ) (name : ℕ) (r : Record) → OpenName p name → r ≡ recordOf p name → OfOpenName p r
 open-record p name r opened is = record { name = name; opened = opened; is = is }
 
-module _ (p : List ℕ) (r : Record) (o : OpenRecord p r) where
+module _ (p : List ℕ) (r : Record) (o : OfOpenName p r) where
   pub record-good : Good p (r .height) (r .root)
   record-good = rw (o .is) (open-good p (o .name) (o .opened))
 

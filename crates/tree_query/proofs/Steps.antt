@@ -6,18 +6,20 @@ use Prim.Native.Nat.{ℕ, suc, _+_, _-_, _*_, _≤_, _<_}
 use native.Mathlib.Nat.{add-assoc}
 use native.Mathlib.Omega.{arith}
 use lib.ListN.{length, take, drop, length-append}
+use Rattle.lists.specs.Sums.{sumBelow, total}
+use Rattle.lists.proofs.Measures.{Additive}
+use Rattle.pool.proofs.Trees.{shape-around, told-before}
 use Rattle.pool_entries.proofs.SeatedChildren.{seated-takes, seated-total}
 use Rattle.pool_entries.specs.Summaries.{wordsAt}
 use Rattle.geometry.specs.Layout.{entryMarksAt, entryCountsAt, wordSize}
 use Rattle.geometry.specs.Limits.{mostAlphabet}
 use Rattle.pool.specs.Blocks.{entries, link}
 use Rattle.pool.specs.Trees.{shapeAt}
-use Rattle.pool.proofs.Children.{shape-around, told-before}
-use Rattle.sequence.specs.Alphabet.{sumBelow}
 use Rattle.sequence.specs.Definition1.{count, access, rank, select}
-use Rattle.sequence.proofs.Measures.{Additive, count-additive}
 use Rattle.shape.specs.Level.{Takes}
-use Rattle.shape.specs.Nested.{Node, total, flat, marksIn}
+use Rattle.shape.specs.Nested.{Node, flat, marksIn}
+use Rattle.sequence.proofs.Counts.{count-additive}
+use Rattle.shape.specs.Nested.{Node, flat, marksIn}
 use Rattle.shape.proofs.Steps.{access-takes, rank-takes, select-takes}
 use Rattle.tree_query.specs.Good.{Good}
 use Rattle.pool_entries.specs.Seats.{Seated}

@@ -9,7 +9,7 @@ use Rattle.pool.specs.Trees.{treeAt}
 use Rattle.shape.specs.Trees.{Tree}
 
 -- the record is that of an open name
-pub record OpenRecord (p : List ℕ) (r : Record) : Type 0 where
+pub record OfOpenName (p : List ℕ) (r : Record) : Type 0 where
   pub name : ℕ
   pub opened : OpenName p name
   pub is : r ≡ recordOf p name

@@ -11,7 +11,7 @@ ghost use Rattle.pool.specs.Words.{wordLimit};
 ghost use Rattle.sequence.specs.Definition1.{count as countOf, rank as rankOf, select as selectOf};
 ghost use Rattle.shape.specs.Trees.{marksT};
 ghost use Rattle.tree_query.specs.Answers.{FoundOf};
-ghost use Rattle.tree_query.specs.Records.{OpenRecord, treeBy};
+ghost use Rattle.tree_query.specs.Records.{OfOpenName, treeBy};
 use crate::Found;
 use crate::descent::access_in;
 use crate::descent::rank_in;
@@ -23,7 +23,7 @@ use pool_entries::words_before;
 
 // The mark at place i, and its depth.
 pub fn access(pool: &[u8], found: Record, i: usize) -> Found
-    requires opened { ⌜ OpenRecord (now pool) found ⌝ }
+    requires opened { ⌜ OfOpenName (now pool) found ⌝ }
     requires place { ⌜ (1 ≤ i) × (i ≤ lengthOf (marksT (treeBy (now pool) found))) ⌝ }
     ensures { λ r. ⌜ FoundOf (now (pool .entry)) found i r ⌝ }
 {
@@ -34,7 +34,7 @@ pub fn access(pool: &[u8], found: Record, i: usize) -> Found
 
 // How many of the places 1 to i bear c.
 pub fn rank(pool: &[u8], found: Record, c: u8, i: usize) -> usize
-    requires opened { ⌜ OpenRecord (now pool) found ⌝ }
+    requires opened { ⌜ OfOpenName (now pool) found ⌝ }
     requires place { ⌜ (c < mostAlphabet) × (i ≤ lengthOf (marksT (treeBy (now pool) found))) ⌝ }
     ensures { λ r. ⌜ r ≡ rankOf c (marksT (treeBy (now (pool .entry)) found)) i ⌝ }
 {
@@ -43,7 +43,7 @@ pub fn rank(pool: &[u8], found: Record, c: u8, i: usize) -> usize
 
 // The place of the j-th c.
 pub fn select(pool: &[u8], found: Record, c: u8, j: usize) -> usize
-    requires opened { ⌜ OpenRecord (now pool) found ⌝ }
+    requires opened { ⌜ OfOpenName (now pool) found ⌝ }
     requires number { ⌜ (c < mostAlphabet) × (1 ≤ j) × (j ≤ countOf c (marksT (treeBy (now pool) found))) ⌝ }
     ensures { λ r. ⌜ r ≡ selectOf c (marksT (treeBy (now (pool .entry)) found)) j ⌝ }
 {
@@ -52,7 +52,7 @@ pub fn select(pool: &[u8], found: Record, c: u8, j: usize) -> usize
 
 // How many marks c the name has: counted in a root that is a leaf, and said by the entries of any other.
 pub fn count(pool: &[u8], found: Record, c: u8) -> usize
-    requires opened { ⌜ OpenRecord (now pool) found ⌝ }
+    requires opened { ⌜ OfOpenName (now pool) found ⌝ }
     requires symbol { ⌜ c < mostAlphabet ⌝ }
     ensures { λ r. ⌜ r ≡ countOf c (marksT (treeBy (now (pool .entry)) found)) ⌝ }
 {

@@ -5,7 +5,7 @@ ghost use lib.ListN.{length};
 ghost use Rattle.geometry.specs.Limits.{names, mostAlphabet};
 ghost use Rattle.pool.specs.Sound.{Sound};
 ghost use Rattle.shape.specs.Trees.{marksT};
-ghost use Rattle.tree_query.specs.Records.{OpenRecord, treeBy};
+ghost use Rattle.tree_query.specs.Records.{OfOpenName, treeBy};
 ghost use Rattle.tree_query_cases.specs.Slots.{slotSize};
 use geometry::Record;
 use libc::STDIN_FILENO;
@@ -59,7 +59,7 @@ fn compare_name(pool: &[u8], name: usize, slot: &[u8])
 
 // Compares an open name with its slot, by the record that was read, and says what came of it.
 fn compare_open(pool: &[u8], name: usize, found: Record, slot: &[u8])
-    requires { ⌜ OpenRecord (now pool) found × (slotSize ≤ length (now slot)) ⌝ }
+    requires { ⌜ OfOpenName (now pool) found × (slotSize ≤ length (now slot)) ⌝ }
 {
     let depth = pool::wide(slot[0]);
     let number = pool::word(slot, NUMBER_AT);
@@ -79,7 +79,7 @@ fn compare_open(pool: &[u8], name: usize, found: Record, slot: &[u8])
 
 // Every answer of a name that should have these marks, all of them at one depth.
 fn answers_right(pool: &[u8], name: usize, found: Record, depth: usize, marks: &[u8]) -> bool
-    requires opened { ⌜ OpenRecord (now pool) found ⌝ }
+    requires opened { ⌜ OfOpenName (now pool) found ⌝ }
     requires long { ⌜ length (now marks) ≤ length (marksT (treeBy (now pool) found)) ⌝ }
 {
     if !marks_right(pool, name, found, depth, marks) {
@@ -90,7 +90,7 @@ fn answers_right(pool: &[u8], name: usize, found: Record, depth: usize, marks: &
 
 // The mark at every place, and its depth.
 fn marks_right(pool: &[u8], name: usize, found: Record, depth: usize, marks: &[u8]) -> bool
-    requires opened { ⌜ OpenRecord (now pool) found ⌝ }
+    requires opened { ⌜ OfOpenName (now pool) found ⌝ }
     requires long { ⌜ length (now marks) ≤ length (marksT (treeBy (now pool) found)) ⌝ }
 {
     let mut i = 0;
@@ -111,7 +111,7 @@ fn marks_right(pool: &[u8], name: usize, found: Record, depth: usize, marks: &[u
 
 // The ranks and places of every symbol, those past the name's alphabet too.
 fn symbols_right(pool: &[u8], name: usize, found: Record, marks: &[u8]) -> bool
-    requires opened { ⌜ OpenRecord (now pool) found ⌝ }
+    requires opened { ⌜ OfOpenName (now pool) found ⌝ }
     requires long { ⌜ length (now marks) ≤ length (marksT (treeBy (now pool) found)) ⌝ }
 {
     let mut symbol: u8 = 0;
@@ -127,7 +127,7 @@ fn symbols_right(pool: &[u8], name: usize, found: Record, marks: &[u8]) -> bool
 
 // The rank of a symbol at every place from 0 on, counted one mark at a time, and the place of each that is met.
 fn places_right(pool: &[u8], name: usize, found: Record, symbol: u8, marks: &[u8]) -> bool
-    requires opened { ⌜ OpenRecord (now pool) found × (symbol < mostAlphabet) ⌝ }
+    requires opened { ⌜ OfOpenName (now pool) found × (symbol < mostAlphabet) ⌝ }
     requires long { ⌜ length (now marks) ≤ length (marksT (treeBy (now pool) found)) ⌝ }
 {
     if !place_right(pool, name, found, symbol, 0, 0, 0) {
@@ -158,7 +158,7 @@ fn place_right(
     before: usize,
     met: usize,
 ) -> bool
-    requires opened { ⌜ OpenRecord (now pool) found × (symbol < mostAlphabet) ⌝ }
+    requires opened { ⌜ OfOpenName (now pool) found × (symbol < mostAlphabet) ⌝ }
     requires inside { ⌜ place ≤ length (marksT (treeBy (now pool) found)) ⌝ }
 {
     if tree_query::rank(pool, found, symbol, place) != met {

@@ -7,11 +7,11 @@ use native.Mathlib.Omega.{arith}
 use lib.ListN.{length, take, drop}
 use Rattle.geometry.specs.Layout.{leastBranch, mostBranch}
 use Rattle.shape.specs.Level.{halves}
-use Rattle.pool.proofs.Changed.{only-then, only-wider}
-use Rattle.pool.proofs.Frames.{same-byte}
 use Rattle.pool.specs.Blocks.{entries}
 use Rattle.pool.specs.Bytes.{shares}
 use Rattle.pool.specs.Changes.{SameBlock}
+use Rattle.pool.proofs.Changes.{only-then, only-wider}
+use Rattle.pool.proofs.TreesKept.{same-byte}
 use Rattle.pool_blocks.proofs.Branches.{entries-length}
 use Rattle.pool_blocks.specs.Branches.{BranchCut}
 use Rattle.pool_blocks.specs.Contents.{entryList}

@@ -5,18 +5,19 @@ use Prim.Native.Nat.{ℕ, suc, _+_, _-_, _≤_, _<_}
 use native.Mathlib.Omega.{arith}
 use lib.ListN.{length, take, drop, length-append}
 use Rattle.geometry.specs.Limits.{mostAlphabet}
+use Rattle.lists.proofs.Sums.{sumBelow-one}
+use Rattle.lists.specs.Sums.{total}
 use Rattle.sequence.specs.Definition1.{isMark, count}
 use Rattle.shape.proofs.Filled.{root-least}
 use Rattle.shape.proofs.Instances.{oneToAByte-proper}
 use Rattle.shape.specs.Fill.{rootLeast}
 use Rattle.shape.specs.Level.{Takes}
-use Rattle.shape.specs.Nested.{total, marksIn}
+use Rattle.shape.specs.Nested.{marksIn}
 use Rattle.shape.specs.Sizes.{oneToAByte}
-use Rattle.pool.proofs.Children.{told-all, count-blocks}
-use Rattle.pool.proofs.Sums.{sumBelow-one}
 use Rattle.pool.specs.Blocks.{entries, link, marksBelow}
 use Rattle.pool.specs.Sound.{SoundBlock, SoundBelow}
 use Rattle.pool.specs.Trees.{shapeAt, blocksAt, pathAt}
+use Rattle.pool.proofs.Trees.{told-all, count-blocks}
 use Rattle.pool_entries.proofs.SeatedChildren.{seated-takes, seated-total, seated-path}
 use Rattle.pool_entries.specs.Seats.{Seated}
 use Rattle.pool_entries.specs.declared.Seat.{Seat}

@@ -4,12 +4,12 @@ use mathlib.Core.List.{List}
 use Prim.Native.Nat.{ℕ, _≤_, _<_}
 use native.Mathlib.Omega.{arith}
 use Rattle.geometry.specs.Layout.{mostBranch}
-use Rattle.pool.proofs.Changed.{only-then}
 use Rattle.pool.specs.Blocks.{entries}
+use Rattle.pool.proofs.Changes.{only-then}
+use Rattle.pool_entries.proofs.Entries.{entries-kept, form-kept, only-entry}
 use Rattle.pool_blocks.proofs.Branches.{entry-link, entry-below, entry-count, entry-filled}
 use Rattle.pool_blocks.specs.Branches.{EntryOpened}
 use Rattle.pool_blocks.specs.Contents.{entryBytes, BranchAt}
-use Rattle.pool_entries.proofs.Neighbours.{entries-kept, form-kept, only-entry}
 use Rattle.pool_entries.specs.Entries.{PutEntry}
 use Rattle.pool_entries.specs.declared.Summary.{Summary}
 use Rattle.tree_splits.specs.Entries.{EntryHolds}

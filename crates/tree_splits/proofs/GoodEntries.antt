@@ -5,16 +5,16 @@ use Prim.Native.Nat.{ℕ, suc}
 use native.Mathlib.Omega.{arith}
 use lib.ListN.{length}
 use Rattle.geometry.specs.Limits.{mostAlphabet}
+use Rattle.lists.proofs.Froms.{all-from, from-all}
+use Rattle.lists.proofs.Joins.{joined-map}
+use Rattle.lists.proofs.Mapped.{map-twice}
+use Rattle.lists.specs.Items.{All}
+use Rattle.lists.specs.Joins.{joined}
 use Rattle.sequence.specs.Definition1.{count}
-use Rattle.sequence.specs.Items.{All}
 use Rattle.shape.proofs.Filled.{root-least}
 use Rattle.shape.proofs.Instances.{oneToAByte-proper}
-use Rattle.shape.specs.Nested.{Node, joined, flat, marksIn}
+use Rattle.shape.specs.Nested.{Node, flat, marksIn}
 use Rattle.shape.specs.Sizes.{oneToAByte, least}
-use Rattle.pool.proofs.Children.{blocks-root}
-use Rattle.pool.proofs.Frames.{shape-kept, blocks-kept, below-kept, same-block}
-use Rattle.pool.proofs.Froms.{all-from, from-all}
-use Rattle.pool.proofs.Lists.{joined-map}
 use Rattle.pool.proofs.SoundTrees.{sound-readable}
 use Rattle.pool.proofs.Ways.{Readable}
 use Rattle.pool.specs.Blocks.{entries, link}
@@ -22,10 +22,11 @@ use Rattle.pool.specs.Changes.{SameBlock}
 use Rattle.pool.specs.Sound.{SoundBelow}
 use Rattle.pool.specs.Trees.{shapeAt, blocksAt}
 use Rattle.pool.specs.Untouched.{SameBlocks}
+use Rattle.pool.proofs.Trees.{blocks-root}
+use Rattle.pool.proofs.TreesKept.{shape-kept, blocks-kept, below-kept, same-block}
 use Rattle.pool_blocks.proofs.Branches.{entry-link, entry-below, entry-count, children-are}
 use Rattle.pool_blocks.specs.Contents.{linkIn, entryBytes, entryList}
 use Rattle.tree_splits.specs.Entries.{TrueEntry, SoundChild}
-use Rattle.tree_splits.proofs.Pieces.{map-twice}
 
 pub record GoodEntry (p : List ℕ) (h : ℕ) (entry : List ℕ) : Type 0 where
   pub sound : SoundChild p h (linkIn entry)

@@ -10,10 +10,10 @@ use Rattle.geometry.specs.Layout.{formMarks, mostBranch}
 use Rattle.sequence.proofs.Counts.{isMark-same}
 use Rattle.sequence.specs.Definition1.{count}
 use Rattle.shape.proofs.Chop.{chop-fits, chop-halves}
-use Rattle.pool.proofs.Changed.{only-wider}
 use Rattle.pool.specs.Blocks.{formOf, entries}
 use Rattle.pool.specs.Bytes.{shares}
 use Rattle.pool.specs.Changes.{Only}
+use Rattle.pool.proofs.Changes.{only-wider}
 use Rattle.pool_blocks.proofs.Branches.{entries-length}
 use Rattle.pool_blocks.specs.Contents.{entryList, BranchAt}
 use Rattle.pool_entries.specs.Summaries.{Is}

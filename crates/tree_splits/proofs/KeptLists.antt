@@ -3,15 +3,16 @@ use mathlib.Core.Path.{_≡_}
 use mathlib.Core.List.{List, map}
 use Prim.Native.Nat.{ℕ, _≤_}
 use lib.ListN.{length}
+use Rattle.lists.proofs.Items.{all-both}
+use Rattle.lists.proofs.Joins.{joined-all, joined-same}
+use Rattle.lists.proofs.Mapped.{map-same}
+use Rattle.lists.specs.Items.{All}
+use Rattle.lists.specs.Joins.{joined}
 use Rattle.sequence.specs.Definition1.{count}
-use Rattle.sequence.specs.Items.{All}
-use Rattle.shape.specs.Nested.{joined}
-use Rattle.pool.proofs.Distincts.{standing-all}
-use Rattle.pool.proofs.Lists.{joined-all, joined-same, map-same}
+use Rattle.sequence.proofs.Counts.{standing-all}
 use Rattle.pool.specs.Changes.{SameBlock}
 use Rattle.pool.specs.Untouched.{SameBlocks}
 use Rattle.tree_splits.proofs.GoodEntries.{GoodEntry, shapeIn, blocksIn, shape-same, blocks-same, good-kept}
-use Rattle.tree_splits.proofs.Pieces.{all-both}
 
 pub record KeptList (p q : List ℕ) (h : ℕ) (es : List (List ℕ)) : Type 0 where
   pub good : All (GoodEntry q h) es

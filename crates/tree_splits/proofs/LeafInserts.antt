@@ -8,25 +8,25 @@ use native.Mathlib.Omega.{arith}
 use lib.ListN.{length}
 use Rattle.geometry.specs.Layout.{mostLeaf}
 use Rattle.geometry.specs.Limits.{mostAlphabet}
+use Rattle.lists.proofs.Items.{all-left, all-right}
+use Rattle.lists.specs.Items.{AllBelow}
+use Rattle.lists.specs.Joins.{joined}
 use Rattle.sequence.proofs.Counts.{isMark-same}
 use Rattle.sequence.proofs.Edits.{length-insert, allBelow-insert}
-use Rattle.sequence.specs.Alphabet.{AllBelow}
 use Rattle.sequence.specs.Definition1.{count, insert}
 use Rattle.shape.proofs.Choice.{cond-le, cond-lt}
 use Rattle.shape.proofs.Chop.{chop-fits}
 use Rattle.shape.proofs.Marks.{insertNode-marks}
 use Rattle.shape.specs.Blocks.{divides, splits}
 use Rattle.shape.specs.Paths.{path}
-use Rattle.shape.specs.Nested.{joined}
 use Rattle.shape.specs.Sizes.{oneToAByte, most}
 use Rattle.shape.specs.Trees.{insertNode}
-use Rattle.pool.proofs.Changed.{only-wider}
-use Rattle.pool.proofs.Leaves.{length-leaf}
 use Rattle.pool.specs.Blocks.{entries, leafMarks}
 use Rattle.pool.specs.Bytes.{shares}
 use Rattle.pool.specs.Trees.{pathAt}
+use Rattle.pool.proofs.Blocks.{length-leaf}
+use Rattle.pool.proofs.Changes.{only-wider}
 use Rattle.pool_blocks.specs.Leaves.{MarkInserted}
-use Rattle.sequence.proofs.Items.{all-left, all-right}
 use Rattle.pool_holders.specs.Maps.{freeIn, BlockTaken}
 use Rattle.pool_holders.proofs.Takes.{taken-one, taken-free, taken-blocks, taken-entered, entered-none}
 use Rattle.tree_splits.proofs.SoundBlocks.{block-written}

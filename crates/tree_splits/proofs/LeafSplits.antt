@@ -10,11 +10,11 @@ use Rattle.sequence.specs.Definition1.{insert}
 use Rattle.shape.proofs.Cut.{full-leaf-low, full-leaf-high}
 use Rattle.shape.proofs.Instances.{oneToAByte-proper}
 use Rattle.shape.specs.Sizes.{oneToAByte}
-use Rattle.pool.proofs.Changed.{only-then, only-wider}
-use Rattle.pool.proofs.Frames.{same-entries, same-leaf, same-byte}
 use Rattle.pool.specs.Blocks.{entries, leafMarks}
 use Rattle.pool.specs.Bytes.{shares}
 use Rattle.pool.specs.Changes.{SameBlock}
+use Rattle.pool.proofs.Changes.{only-then, only-wider}
+use Rattle.pool.proofs.TreesKept.{same-entries, same-leaf, same-byte}
 use Rattle.pool_blocks.proofs.Leaves.{leaf-size}
 use Rattle.pool_blocks.specs.Contents.{LeafAt}
 use Rattle.pool_blocks.specs.Leaves.{MarkInserted, LeafCut}

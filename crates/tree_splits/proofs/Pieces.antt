@@ -1,49 +1,26 @@
--- Lists and their pieces, item by item.
-use mathlib.Core.Path.{_≡_, refl, sym, ap, ap₂, _∙_}
+-- The pieces that a node is chopped into, item by item.
+use mathlib.Core.Path.{_≡_, sym, ap, ap₂, _∙_}
 use mathlib.Core.Bool.{Bool, true, false, cond, _&&_}
-use mathlib.Core.List.{List, [], _∷_, _++_, map}
-use Prim.Native.Nat.{ℕ, zero, suc, _+_, _/_, _≤_, _<_}
+use mathlib.Core.List.{List, [], _∷_, map}
+use Prim.Native.Nat.{ℕ, suc, _+_, _/_, _≤_, _<_}
 use native.Mathlib.Omega.{arith}
 use lib.Dec.{leb}
-use lib.ListN.{length, take, drop, length-map, length-take, length-drop}
+use lib.ListN.{length, length-map, length-take, length-drop}
 use Rattle.geometry.specs.Layout.{leastBranch, mostBranch}
-use Rattle.sequence.proofs.Items.{all-take, all-drop}
-use Rattle.sequence.specs.Items.{All}
+use Rattle.lists.proofs.Items.{all-take, all-drop}
+use Rattle.lists.proofs.Mapped.{map-drop, map-take}
+use Rattle.lists.specs.Items.{All}
 use Rattle.shape.proofs.Choice.{by-leb}
 use Rattle.shape.proofs.Chop.{by-chop, chop-fits, chop-halves}
 use Rattle.shape.specs.Fill.{Within}
 use Rattle.shape.specs.Level.{middle, halves, chop}
 
-module _ {A : Type 0} where
-  -- what two facts about each item show
-  pub all-both : (P Q R : A → Type 0) → ((x : A) → P x → Q x → R x) → (xs : List A) → All P xs → All Q xs → All R xs
-  all-both P Q R f [] p q = tt
-  all-both P Q R f (x ∷ xs) p q = (f x (p .0) (q .0), all-both P Q R f xs (p .1) (q .1))
-
 module _ {A B : Type 0} (f : A → B) where
-  pub all-unmapped : (P : B → Type 0) (xs : List A) → All P (map f xs) → All (λ x. P (f x)) xs
-  all-unmapped P [] p = tt
-  all-unmapped P (x ∷ xs) p = (p .0, all-unmapped P xs (p .1))
-
-  pub map-append : (xs ys : List A) → map f (xs ++ ys) ≡ map f xs ++ map f ys
-  map-append [] ys = refl
-  map-append (x ∷ xs) ys = ap (λ l. f x ∷ l) (map-append xs ys)
-
-  pub map-take : (k : ℕ) (xs : List A) → map f (take k xs) ≡ take k (map f xs)
-  map-take zero xs = refl
-  map-take (suc k) [] = refl
-  map-take (suc k) (x ∷ xs) = ap (λ l. f x ∷ l) (map-take k xs)
-
-  pub map-drop : (k : ℕ) (xs : List A) → map f (drop k xs) ≡ drop k (map f xs)
-  map-drop zero xs = refl
-  map-drop (suc k) [] = refl
-  map-drop (suc k) (x ∷ xs) = map-drop k xs
-
   map-halves : (xs : List A) → map (map f) (halves xs) ≡ halves (map f xs)
   unfolding halves
   map-halves xs =
       let e : middle (map f xs) ≡ middle xs = ap (λ n. n / 2) (length-map xs f) in
-      rw e (ap₂ (λ x y. x ∷ y ∷ []) (map-take (middle xs) xs) (map-drop (middle xs) xs))
+      rw e (ap₂ (λ x y. x ∷ y ∷ []) (map-take f (middle xs) xs) (map-drop f (middle xs) xs))
 
   -- each item of the pieces mapped
   pub map-chop : (most : ℕ) (xs : List A) → map (map f) (chop most xs) ≡ chop most (map f xs)
@@ -51,10 +28,6 @@ module _ {A B : Type 0} (f : A → B) where
       by-chop most xs (λ ps. map (map f) ps ≡ chop most (map f xs))
       (λ (fits : length xs ≤ most). sym (chop-fits most (map f xs) (omega (arith, length-map xs f))))
       (λ (more : most < length xs). map-halves xs ∙ sym (chop-halves most (map f xs) (omega (arith, length-map xs f))))
-
-pub map-twice : {A B C : Type 0} (g : B → C) (f : A → B) (xs : List A) → map g (map f xs) ≡ map (λ x. g (f x)) xs
-map-twice g f [] = refl
-map-twice g f (x ∷ xs) = ap (λ l. g (f x) ∷ l) (map-twice g f xs)
 
 module _ {A : Type 0} where
   pub all-chop : (P : A → Type 0) (most : ℕ) (xs : List A) → All P xs → All (All P) (chop most xs)

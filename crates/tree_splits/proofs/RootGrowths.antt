@@ -4,15 +4,16 @@ use mathlib.Core.List.{List, [], _∷_, map}
 use Prim.Native.Nat.{ℕ, _≤_, _<_}
 use native.Mathlib.Omega.{arith}
 use lib.ListN.{length}
+use Rattle.lists.proofs.Joins.{joined-map}
+use Rattle.lists.specs.Froms.{from}
+use Rattle.lists.specs.Items.{All}
+use Rattle.lists.specs.Joins.{joined}
 use Rattle.sequence.proofs.Counts.{isMark-same}
 use Rattle.sequence.specs.Definition1.{count}
-use Rattle.sequence.specs.Items.{All}
-use Rattle.shape.specs.Nested.{joined}
-use Rattle.pool.proofs.Changed.{only-then, only-wider}
-use Rattle.pool.proofs.Lists.{joined-map}
 use Rattle.pool.specs.Blocks.{entries}
-use Rattle.pool.specs.Bytes.{shares, from}
+use Rattle.pool.specs.Bytes.{shares}
 use Rattle.pool.specs.Trees.{shapeAt, blocksAt}
+use Rattle.pool.proofs.Changes.{only-then, only-wider}
 use Rattle.pool_blocks.proofs.Branches.{entries-length}
 use Rattle.pool_blocks.specs.Contents.{linkIn, entryBytes, entryList}
 use Rattle.pool_blocks.specs.Moves.{Emptied}

@@ -5,12 +5,12 @@ use Prim.Native.Nat.{ℕ, _+_, _≤_}
 use native.Mathlib.Omega.{arith}
 use lib.ListN.{length}
 use Rattle.geometry.specs.Layout.{entrySize, mostBranch}
-use Rattle.pool.proofs.Cuts.{cut-same}
-use Rattle.pool.proofs.Frames.{same-byte, same-entries}
-use Rattle.pool.proofs.Froms.{from-same}
+use Rattle.lists.proofs.Cuts.{cut-same}
+use Rattle.lists.proofs.Froms.{from-same}
+use Rattle.lists.specs.Froms.{from}
 use Rattle.pool.specs.Blocks.{entries, entryAt}
-use Rattle.pool.specs.Bytes.{from}
 use Rattle.pool.specs.Changes.{SameBlock}
+use Rattle.pool.proofs.TreesKept.{same-byte, same-entries}
 use Rattle.pool_blocks.specs.Contents.{entryBytes, entryList}
 
 pub same-entry-list : (p q : List ℕ) (b : ℕ) → SameBlock b p q → length q ≡ length p → entries p b ≤ mostBranch → entryList q b ≡ entryList p b

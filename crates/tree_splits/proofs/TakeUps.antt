@@ -13,15 +13,15 @@ use Rattle.sequence.proofs.Counts.{isMark-same, isMark-other, isMark-cases, cou
 use Rattle.sequence.specs.Definition1.{isMark, count}
 use Rattle.shape.specs.Level.{chop}
 use Rattle.shape.specs.Nested.{flat, marksIn}
-use Rattle.pool.proofs.Changed.{only-then, only-wider}
 use Rattle.pool.proofs.Summaries.{own-marks, own-count}
 use Rattle.pool.specs.Blocks.{entries, link, marksBelow, countBelow}
 use Rattle.pool.specs.Bytes.{shares}
 use Rattle.pool.specs.Trees.{shapeAt}
 use Rattle.pool.specs.Words.{wordLimit}
+use Rattle.pool.proofs.Changes.{only-then, only-wider}
+use Rattle.pool_entries.proofs.Entries.{entries-kept, form-kept, only-entry}
 use Rattle.pool_blocks.proofs.Branches.{entry-link, entry-below, entry-count, entry-written, entries-length}
 use Rattle.pool_blocks.specs.Contents.{linkIn, entryBytes, entryList}
-use Rattle.pool_entries.proofs.Neighbours.{entries-kept, form-kept, only-entry}
 use Rattle.pool_entries.proofs.Summaries.{small-sums}
 use Rattle.pool_entries.specs.Entries.{PutEntry, AddMark}
 use Rattle.pool_entries.specs.Summaries.{SummaryOf, SmallSums}

@@ -7,10 +7,11 @@ use Prim.Native.Nat.{ℕ, suc, _+_, _-_, _≤_, _<_}
 use lib.ListN.{take, drop}
 use Rattle.geometry.specs.Layout.{formMarks, mostBranch}
 use Rattle.geometry.specs.Limits.{mostAlphabet}
+use Rattle.lists.specs.Items.{All}
+use Rattle.lists.specs.Sums.{total}
 use Rattle.sequence.specs.Definition1.{isMark, count}
-use Rattle.sequence.specs.Items.{All}
 use Rattle.shape.specs.Level.{halves, chop}
-use Rattle.shape.specs.Nested.{total, flat, marksIn}
+use Rattle.shape.specs.Nested.{flat, marksIn}
 use Rattle.pool.specs.Blocks.{formOf, entries, link, marksBelow, countBelow}
 use Rattle.pool.specs.Bytes.{shares}
 use Rattle.pool.specs.Changes.{Only}

@@ -6,11 +6,12 @@ use mathlib.Core.Logic.{_⊎_}
 use Prim.Native.Nat.{ℕ, zero, _+_, _-_, _≤_, _<_}
 use Rattle.geometry.specs.Layout.{formMarks, leastLeaf}
 use Rattle.geometry.specs.Limits.{mostAlphabet}
+use Rattle.lists.specs.Items.{All}
+use Rattle.lists.specs.Joins.{joined}
 use Rattle.sequence.specs.Definition1.{count}
-use Rattle.sequence.specs.Items.{All}
 use Rattle.shape.specs.Blocks.{splits}
 use Rattle.shape.specs.Fill.{rootLeast}
-use Rattle.shape.specs.Nested.{joined, marksIn}
+use Rattle.shape.specs.Nested.{marksIn}
 use Rattle.shape.specs.Sizes.{oneToAByte, least}
 use Rattle.shape.specs.Trees.{insertNode}
 use Rattle.pool.specs.Blocks.{formOf, entries, leafMarks}

@@ -4,8 +4,9 @@ use mathlib.Core.List.{List, [], _∷_}
 use Prim.Native.Nat.{ℕ, suc, _+_, _-_, _≤_, _<_}
 use Rattle.geometry.specs.Layout.{formMarks, leastBranch}
 use Rattle.geometry.specs.Limits.{mostAlphabet}
+use Rattle.lists.specs.Joins.{joined}
 use Rattle.sequence.specs.Definition1.{count}
-use Rattle.shape.specs.Nested.{joined, marksIn}
+use Rattle.shape.specs.Nested.{marksIn}
 use Rattle.pool.specs.Blocks.{formOf}
 use Rattle.pool.specs.Changes.{Only}
 use Rattle.pool.specs.Sound.{SoundBlock, SoundBelow}

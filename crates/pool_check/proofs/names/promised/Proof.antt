@@ -5,6 +5,7 @@ use Prim.Native.Nat.{_-_, _*_, _≤_}
 use Rattle.geometry.specs.Limits.{names}
 use Rattle.pool.specs.Words.{wordLimit}
 use Rattle.pool_check.proofs.Naming.{promisedBelow, promise-none, promise-more, promise-all}
+use Rattle.pool_check.proofs.Naming.{promise-more, promise-all}
 use Rattle.pool_check.proofs.names.promised.Statement.{statement}
 use Rattle.pool_check.proofs.names.promised.Tie as tie
 

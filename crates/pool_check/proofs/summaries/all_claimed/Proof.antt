@@ -2,11 +2,11 @@
 use borrow.Author.Needs.{needs}
 use mathlib.Core.Path.{_≡_}
 use Prim.Native.Nat.{_-_, _*_, _≤_}
-use Rattle.pool_entries.proofs.Totals.{sum-none, sum-more, sum-all}
 use Rattle.geometry.specs.Limits.{mostAlphabet}
+use Rattle.lists.proofs.Sums.{sum-none, sum-more, sum-all}
+use Rattle.lists.specs.Sums.{sumBelow}
 use Rattle.pool.specs.Blocks.{countBelow}
 use Rattle.pool.specs.Words.{wordLimit}
-use Rattle.sequence.specs.Alphabet.{sumBelow}
 use Rattle.pool_check.proofs.summaries.all_claimed.Statement.{statement}
 use Rattle.pool_check.proofs.summaries.all_claimed.Tie as tie
 

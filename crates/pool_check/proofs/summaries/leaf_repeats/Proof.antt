@@ -5,8 +5,8 @@ use borrow.Author.Tests.{not-true, not-false}
 use mathlib.Core.Path.{_≡_}
 use Prim.Native.Nat.{_+_, _-_, _≤_}
 use Rattle.geometry.specs.Limits.{mostAlphabet}
+use Rattle.lists.specs.Sums.{sumBelow}
 use Rattle.pool.specs.Blocks.{countBelow}
-use Rattle.sequence.specs.Alphabet.{sumBelow}
 use Rattle.pool_check.proofs.Claims.{ClaimsTo, claims-none, claims-more, claims-not, other-marks, other-sum, claims-all, left-all, some-left, next-left, fewer-left, left-enough, left-next}
 use Rattle.pool_check.proofs.summaries.leaf_repeats.Statement.{statement}
 use Rattle.pool_check.proofs.summaries.leaf_repeats.Tie as tie

@@ -2,11 +2,11 @@
 use borrow.Author.Needs.{needs}
 use mathlib.Core.Path.{_≡_}
 use Prim.Native.Nat.{_-_, _*_, _≤_}
-use Rattle.pool_entries.proofs.Totals.{sum-none, sum-more}
 use Rattle.geometry.specs.Layout.{mostBranch}
+use Rattle.lists.proofs.Sums.{sum-none, sum-more}
+use Rattle.lists.specs.Sums.{sumBelow}
 use Rattle.pool.specs.Blocks.{marksBelow}
 use Rattle.pool.specs.Words.{wordLimit}
-use Rattle.sequence.specs.Alphabet.{sumBelow}
 use Rattle.pool_check.proofs.Repeating.{few-children, leaf-marks, branch-marks}
 use Rattle.pool_check.proofs.summaries.own_marks.Statement.{statement}
 use Rattle.pool_check.proofs.summaries.own_marks.Tie as tie

@@ -1,7 +1,7 @@
 -- `pool_entries::choice::words_before` meets its contract: the sums of no word to three.
 use borrow.Author.Needs.{needs}
 use mathlib.Core.Logic.{⊎-elim}
-use Rattle.pool_entries.proofs.Totals.{sum-of-none, sum-of-one, sum-of-two, sum-of-three}
+use Rattle.lists.proofs.Sums.{sum-of-none, sum-of-one, sum-of-two, sum-of-three}
 use Rattle.pool_entries.proofs.choice.words_before.Statement.{statement}
 use Rattle.pool_entries.proofs.choice.words_before.Tie as tie
 

@@ -8,7 +8,7 @@ use lib.ListN.{length, getD}
 use Rattle.geometry.specs.Layout.{wordSize}
 use Rattle.geometry.specs.Limits.{mostAlphabet}
 use Rattle.pool_entries.specs.Entries.{PutCounts}
-use Rattle.pool_entries.proofs.Written.{counts-none, counts-more, counts-all}
+use Rattle.pool_entries.proofs.Entries.{counts-none, counts-more, counts-all}
 use Rattle.pool_entries.proofs.stores.put_counts.Statement.{statement}
 use Rattle.pool_entries.proofs.stores.put_counts.Tie as tie
 

@@ -1,6 +1,6 @@
 -- `pool_entries::stores::put_mark` meets its contract, by the law of its two stores.
 use borrow.Author.Needs.{needs}
-use Rattle.pool_entries.proofs.Written.{mark-put}
+use Rattle.pool_entries.proofs.Entries.{mark-put}
 use Rattle.pool_entries.proofs.stores.put_mark.Statement.{statement}
 use Rattle.pool_entries.proofs.stores.put_mark.Tie as tie
 

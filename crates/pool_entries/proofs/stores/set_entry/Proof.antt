@@ -1,6 +1,6 @@
 -- `pool_entries::stores::set_entry` meets its contract: link, marks and counts make the entry.
 use borrow.Author.Needs.{needs}
-use Rattle.pool_entries.proofs.Written.{entry-put}
+use Rattle.pool_entries.proofs.Entries.{entry-put}
 use Rattle.pool_entries.proofs.stores.set_entry.Statement.{statement}
 use Rattle.pool_entries.proofs.stores.set_entry.Tie as tie
 

@@ -1,7 +1,7 @@
 -- `column` meets its contract: a missing column has the default, a blank, and one that is there doesn't depend on the default.
 use borrow.Author.Needs.{needs}
 use lib.ListN.{List·getD-eq-default}
-use Rattle.text_fixed_form.proofs.Lists.{getD-there}
+use Rattle.lists.proofs.Cuts.{getD-there}
 use Rattle.text_fixed_form.proofs.columns.column.Statement.{statement}
 use Rattle.text_fixed_form.proofs.columns.column.Tie as tie
 

@@ -2,7 +2,7 @@
 use borrow.Author.Needs.{needs}
 use lib.ListN.{drop-of-length-le}
 use lib.Seq.{drop-length}
-use Rattle.text_lines.proofs.Chunks.{rest-is}
+use Rattle.lists.proofs.Cuts.{rest-is}
 use Rattle.text_fixed_form.proofs.columns.columns_after.Statement.{statement}
 use Rattle.text_fixed_form.proofs.columns.columns_after.Tie as tie
 

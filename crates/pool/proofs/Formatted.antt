@@ -8,22 +8,22 @@ use native.Mathlib.Omega.{arith}
 use lib.ListN.{length, replicate, length-replicate, getD-replicate, List·getD-eq-default}
 use Rattle.geometry.specs.Limits.{names, blockSize, directorySize}
 use Rattle.geometry.specs.declared.Record.{Record}
+use Rattle.lists.proofs.Froms.{from-same, joined-from}
+use Rattle.lists.proofs.Sums.{sumBelow-zero, sumBelow-same}
+use Rattle.lists.specs.Froms.{from}
 use Rattle.protocol.specs.State as State
 use Rattle.sequence.specs.Definition1.{count}
-use Rattle.sequence.proofs.Alphabets.{sumBelow-zero}
-use Rattle.sequence.proofs.Measures.{count-additive}
+use Rattle.sequence.proofs.Counts.{count-additive}
 use Rattle.shape.specs.Trees.{Tree}
-use Rattle.pool.specs.Bytes.{byte, recordAt, from}
+use Rattle.pool.specs.Bytes.{byte, recordAt}
 use Rattle.pool.specs.Formatted.{formatted}
 use Rattle.pool.specs.Meaning.{meaningOf, meaning}
 use Rattle.pool.specs.Names.{recordOf, blocksOf}
 use Rattle.pool.specs.Shares.{promisedShares}
 use Rattle.pool.specs.Sound.{LengthAllowed, ClosedName, Sound}
-use Rattle.pool.proofs.Froms.{from-same, joined-from}
-use Rattle.pool.proofs.Meanings.{closed-meaning}
-use Rattle.pool.proofs.Written.{closed-record}
 use Rattle.pool.proofs.SoundNames.{closed-blocks}
-use Rattle.pool.proofs.Sums.{sumBelow-same}
+use Rattle.pool.proofs.Meaning.{closed-meaning}
+use Rattle.pool.proofs.Written.{closed-record}
 
 module _ (bytes : ℕ) (allowed : LengthAllowed bytes) where
   pub length-formatted : length (formatted bytes) ≡ bytes

@@ -8,22 +8,25 @@ use lib.ListN.{length, take, drop, length-take, length-drop}
 use lib.Seq.{ext-getD}
 use Rattle.geometry.specs.Layout.{mostLeaf, mostBranch}
 use Rattle.geometry.specs.Limits.{blockSize, mostAlphabet}
+use Rattle.lists.proofs.Froms.{from-same, all-from}
+use Rattle.lists.proofs.Items.{all-map}
+use Rattle.lists.proofs.Joins.{joined-same}
+use Rattle.lists.proofs.Mapped.{map-same}
+use Rattle.lists.specs.Froms.{from}
+use Rattle.lists.specs.Items.{All}
+use Rattle.lists.specs.Joins.{joined}
 use Rattle.sequence.specs.Definition1.{count}
-use Rattle.sequence.specs.Items.{All}
-use Rattle.sequence.proofs.Items.{all-map}
-use Rattle.shape.specs.Nested.{joined, flat, marksIn}
+use Rattle.shape.specs.Nested.{flat, marksIn}
 use Rattle.shape.specs.Sizes.{oneToAByte, least}
 use Rattle.pool.specs.Blocks.{entries, leafMarks, link, marksBelow, countBelow, children}
-use Rattle.pool.specs.Bytes.{byte, word, blockAt, from}
+use Rattle.pool.specs.Bytes.{byte, word, blockAt}
 use Rattle.pool.specs.Changes.{SameBlock, Only}
 use Rattle.pool.specs.Sound.{SoundBlock, SoundBelow, Tells}
 use Rattle.pool.specs.Trees.{shapeAt, blocksAt}
 use Rattle.pool.specs.Untouched.{SameBlocks}
-use Rattle.pool.proofs.Children.{blocks-root, blocks-child}
-use Rattle.pool.proofs.Froms.{from-same, all-from}
-use Rattle.pool.proofs.Leaves.{front-byte}
-use Rattle.pool.proofs.Lists.{joined-same, map-same}
 use Rattle.pool.proofs.Ways.{Readable}
+use Rattle.pool.proofs.Blocks.{front-byte}
+use Rattle.pool.proofs.Trees.{blocks-root, blocks-child}
 
 -- blocks that are none of those changed
 pub only-same : (These : ℕ → Type 0) (p p′ : List ℕ) → Only These p p′ → (bs : List ℕ) → All (λ b. These b → ⊥) bs → SameBlocks bs p p′

@@ -4,8 +4,10 @@ use mathlib.Core.List.{List}
 use mathlib.Core.Logic.{_⊎_, inl, inr}
 use Prim.Native.Nat.{ℕ, _+_, _≤_, _<_}
 use native.Mathlib.Omega.{arith}
+use lib.ListN.{take, drop}
 use Rattle.geometry.specs.Layout.{wordSize}
 use Rattle.geometry.specs.Limits.{blockSize, directorySize}
+use Rattle.lists.proofs.Cuts.{cut-same}
 use Rattle.shape.proofs.Choice.{by-leb}
 use Rattle.pool.specs.Bytes.{word, blockAt}
 use Rattle.pool.specs.Changes.{Outside, SameBlock, Only}
@@ -40,6 +42,13 @@ module _ {at many : ℕ} {p q : List ℕ} (o : Outside at many p q) where
 
   pub word-behind : (a : ℕ) → at + many ≤ a → word q a ≡ word p a
   word-behind a h = word-same p q a a (o .high a h) (o .high (a + 1) (omega arith))
+
+  -- a stretch of bytes that ends before it, or starts behind it
+  pub cut-before : (a n : ℕ) → a + n ≤ at → take n (drop a q) ≡ take n (drop a p)
+  cut-before a n h = cut-same p q a n (o .long) (λ j below. o .low (a + j) (omega arith))
+
+  pub cut-behind : (a n : ℕ) → at + many ≤ a → take n (drop a q) ≡ take n (drop a p)
+  cut-behind a n h = cut-same p q a n (o .long) (λ j below. o .high (a + j) (omega arith))
 
   -- a block that ends before the stretch, or starts behind it
   pub block-before : (b : ℕ) → blockAt b + blockSize ≤ at → SameBlock b p q

@@ -6,20 +6,20 @@ use Prim.Native.Nat.{ℕ, zero, suc, _+_, _-_, _≤_, _<_}
 use native.Mathlib.Omega.{arith}
 use lib.ListN.{length, getD, take, drop, length-map, length-append, length-take, length-drop}
 use lib.Seq.{split-at}
-use Rattle.sequence.specs.Alphabet.{sumBelow}
+use Rattle.lists.proofs.Froms.{length-from, getD-from-start, take-from, drop-from, from-all, map-from, total-from, joined-from}
+use Rattle.lists.proofs.Joins.{joined-all, joined-map}
+use Rattle.lists.proofs.Measures.{Additive}
+use Rattle.lists.proofs.Sums.{total-joined, total-map, total-same, sumBelow-same}
+use Rattle.lists.specs.Froms.{from}
+use Rattle.lists.specs.Items.{All}
+use Rattle.lists.specs.Sums.{sumBelow, total}
 use Rattle.sequence.specs.Definition1.{isMark, count}
-use Rattle.sequence.specs.Items.{All}
-use Rattle.sequence.proofs.Measures.{Additive, count-additive}
+use Rattle.sequence.proofs.Counts.{count-additive}
 use Rattle.shape.specs.Blocks.{blocks}
 use Rattle.shape.specs.Level.{Takes}
-use Rattle.shape.specs.Nested.{Node, total, flat}
-use Rattle.shape.proofs.Folds.{total-joined}
+use Rattle.shape.specs.Nested.{Node, flat}
 use Rattle.pool.specs.Blocks.{entries, link, children}
-use Rattle.pool.specs.Bytes.{from}
 use Rattle.pool.specs.Trees.{shapeAt, blocksAt}
-use Rattle.pool.proofs.Froms.{length-from, getD-from-start, take-from, drop-from, from-all, map-from, total-from, joined-from}
-use Rattle.pool.proofs.Lists.{joined-all, joined-map, total-map, total-same}
-use Rattle.pool.proofs.Sums.{sumBelow-same}
 
 module _ (p : List ℕ) where
   -- the tree has as many blocks as its shape has nodes

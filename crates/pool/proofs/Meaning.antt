@@ -12,22 +12,23 @@ use borrow.Author.Tests.{ne-eqb}
 use Rattle.geometry.specs.Layout.{kindClosed}
 use Rattle.geometry.specs.Limits.{names, blockSize, directorySize}
 use Rattle.geometry.specs.declared.Record.{Record}
+use Rattle.lists.proofs.Froms.{length-from, getD-from-start, from-set, total-from}
+use Rattle.lists.proofs.Sums.{sumBelow-same}
+use Rattle.lists.specs.Froms.{from}
+use Rattle.lists.specs.Sums.{total}
 use Rattle.protocol.specs.State.{Store, Part, State, closed, opened, partOf, sharesOf, promised, unpromised}
 use Rattle.protocol.specs.Valid.{ValidPart, Valid}
-use Rattle.shape.specs.Nested.{total}
 use Rattle.shape.specs.Trees.{Tree, marksT}
-use Rattle.pool.specs.Bytes.{shares, from}
+use Rattle.pool.specs.Bytes.{shares}
 use Rattle.pool.specs.Meaning.{meaningOf, meaning}
 use Rattle.pool.specs.Names.{recordOf, treeOf}
 use Rattle.pool.specs.Shares.{promisedShares, unpromisedShares}
 use Rattle.pool.specs.Sound.{ClosedName, OpenName, Sound}
 use Rattle.pool.specs.Trees.{shapeAt}
 use Rattle.pool.specs.Untouched.{Untouched}
-use Rattle.pool.proofs.Froms.{length-from, getD-from-start, from-set, total-from}
-use Rattle.pool.proofs.NamesKept.{record-kept, tree-kept, closed-kept, open-kept}
-use Rattle.pool.proofs.Written.{closed-record}
 use Rattle.pool.proofs.SoundNames.{open-marks}
-use Rattle.pool.proofs.Sums.{sumBelow-same}
+use Rattle.pool.proofs.Written.{closed-record}
+use Rattle.pool.proofs.Untouched.{record-kept, tree-kept, closed-kept, open-kept}
 
 module _ (p : List ℕ) where
   pub closed-meaning : (name : ℕ) → ClosedName p name → meaningOf p name ≡ closed
@@ -40,7 +41,7 @@ module _ (p : List ℕ) where
   unfolding meaningOf
   open-meaning name o =
       ap (λ b. cond b closed (opened (recordOf p name .alphabet) (recordOf p name .q) (treeOf p name)))
-      (ne-eqb (recordOf p name .kind) kindClosed (λ (e : recordOf p name .kind ≡ kindClosed). omega (arith, o .kind)))
+      (ne-eqb (recordOf p name .kind) kindClosed (λ (e : recordOf p name .kind ≡ kindClosed). omega (arith, o .entry .kind)))
 
   pub part-meaning : (name : ℕ) → name < names → partOf (meaning p) name ≡ meaningOf p name
   part-meaning name low = getD-from-start (meaningOf p) names name closed low
@@ -73,11 +74,11 @@ module _ (p : List ℕ) (sound : Sound p) where
         ⊎-elim (λ c. rw (closed-meaning p name c) tt)
         (λ o. rw (open-meaning p name o)
         (record {
-          least = o .alphabetLeast;
-          most = o .alphabetMost;
-          some = o .promise;
+          least = o .entry .alphabetLeast;
+          most = o .entry .alphabetMost;
+          some = o .entry .promise;
           below = rw (marks (treeOf p name)) (open-marks p name o);
-          room = rw (marks (treeOf p name)) (omega (arith, o .length, o .room));
+          room = rw (marks (treeOf p name)) (omega (arith, o .length, o .entry .room));
         })) (sound .each name low)
 
     pub valid-meaning : Valid store (meaning p)

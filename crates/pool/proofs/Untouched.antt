@@ -10,7 +10,7 @@ use lib.Dec.{eqb}
 use Rattle.geometry.specs.Layout.{zeroAt, kindClosed}
 use Rattle.geometry.specs.Limits.{names}
 use Rattle.geometry.specs.declared.Record.{Record}
-use Rattle.sequence.specs.Items.{All}
+use Rattle.lists.specs.Items.{All}
 use Rattle.shape.specs.Fill.{rootLeast}
 use Rattle.shape.specs.Nested.{marksIn}
 use Rattle.shape.specs.Trees.{Tree}
@@ -20,10 +20,10 @@ use Rattle.pool.specs.Names.{recordOf, treeOf, blocksOf}
 use Rattle.pool.specs.Sound.{ClosedName, OpenName}
 use Rattle.pool.specs.Trees.{shapeAt, blocksAt}
 use Rattle.pool.specs.Untouched.{SameBlocks, SameRecord, Untouched}
-use Rattle.pool.proofs.Children.{blocks-root}
-use Rattle.pool.proofs.Frames.{only-same, same-block, shape-kept, blocks-kept, below-kept}
 use Rattle.pool.proofs.SoundNames.{closed-blocks, open-blocks, open-readable}
 use Rattle.pool.proofs.Written.{record-same}
+use Rattle.pool.proofs.Trees.{blocks-root}
+use Rattle.pool.proofs.TreesKept.{only-same, same-block, shape-kept, blocks-kept, below-kept}
 
 -- a change of other blocks only
 pub only-untouched : (These : ℕ → Type 0) (name : ℕ) (p p′ : List ℕ) → name < names → Only These p p′ → All (λ b. These b → ⊥) (blocksOf p name) → Untouched name p p′
@@ -59,17 +59,19 @@ module _ (name : ℕ) (p p′ : List ℕ) (kept : Untouched name p p′) (open-n
       let h : ℕ = recordOf p name .height in
       let b : ℕ = recordOf p name .root in
       record {
-        kind = rw same (open-name .kind);
-        alphabetLeast = rw same (open-name .alphabetLeast);
-        alphabetMost = rw same (open-name .alphabetMost);
-        promise = rw same (open-name .promise);
-        height = rw same (open-name .height);
-        zeroByte = kept .entry zeroAt (omega arith) ∙ open-name .zeroByte;
-        spare = λ j low l. kept .entry j l ∙ open-name .spare j low l;
+        entry = record {
+          kind = rw same (open-name .entry .kind);
+          alphabetLeast = rw same (open-name .entry .alphabetLeast);
+          alphabetMost = rw same (open-name .entry .alphabetMost);
+          promise = rw same (open-name .entry .promise);
+          height = rw same (open-name .entry .height);
+          zeroByte = kept .entry zeroAt (omega arith) ∙ open-name .entry .zeroByte;
+          spare = λ j low l. kept .entry j l ∙ open-name .entry .spare j low l;
+          room = rw same (open-name .entry .room);
+        };
         root = rw same (same-block p p′ b (blocks-root p (λ x. SameBlock x p p′) h b same-blocks) (kept .long) (rootLeast h) h (open-name .root));
         below = rw same (below-kept p p′ (kept .long) (recordOf p name .alphabet) h b (open-readable p name open-name) same-blocks (open-name .below));
         length = rw same (open-name .length ∙ ap (marksIn h) (sym shape-of-kept));
-        room = rw same (open-name .room);
       }
 
   blocks-of-kept : blocksOf p′ name ≡ blocksOf p name

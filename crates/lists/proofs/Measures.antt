@@ -1,29 +1,15 @@
--- Measures of lists that add up over a seam: how many marks, how many c. What holds of both is stated once, over any such measure.
+-- Measures of lists that add up over a seam: how many items, how many c. What holds of both is stated once, over any such measure.
 use mathlib.Core.Path.{_≡_, sym, ap, _∙_}
 use mathlib.Core.List.{List, [], _∷_, _++_}
 use Prim.Native.Nat.{ℕ, suc, _+_, _-_, _≤_, _<_}
-use native.Mathlib.Nat.{zero-add, add-sub-of-le}
+use native.Mathlib.Nat.{add-sub-of-le}
 use native.Mathlib.Omega.{arith}
 use lib.ListN.{length, getD, take, drop, take-append-drop}
-use lib.Seq.{take-suc, take-append-le, take-append-add, take-add, drop-drop, split-at}
-use Rattle.sequence.specs.Definition1.{count, access, insert}
+use lib.Seq.{take-suc, take-append-le, take-append-add, take-add, drop-drop}
 
 -- μ of two lists joined is the sum of both; so is length, by length-append
 abbrev pub Additive : {A : Type 0} → (List A → ℕ) → Type 0
 Additive {A} μ = (xs ys : List A) → μ (xs ++ ys) ≡ μ xs + μ ys
-
-pub count-additive : (c : ℕ) → Additive (count c)
-unfolding count
-count-additive c [] ys = sym (zero-add (count c ys))
-count-additive c (x ∷ xs) ys = omega (arith, count-additive c xs ys)
-
--- a list, cut around its place i
-pub split-place : (xs : List ℕ) (i : ℕ) → 1 ≤ i → i ≤ length xs → take (i - 1) xs ++ access xs i ∷ drop i xs ≡ xs
-unfolding access
-split-place xs i p h =
-    let e : suc (i - 1) ≡ i = omega arith in
-    let l : i - 1 < length xs = omega arith in
-    rw e at (sym (split-at xs (i - 1) 0 l))
 
 module _ (μ : List ℕ → ℕ) (additive : Additive μ) where
   pub measure-nil : μ [] ≡ 0
@@ -70,11 +56,3 @@ module _ (μ : List ℕ → ℕ) (additive : Additive μ) where
       → μ (take i (xs ++ (ys ++ zs))) ≡ μ xs + μ (take (i - length xs) ys)
   measure-middle xs ys zs i past reach =
       omega (arith, measure-right xs (ys ++ zs) i past, measure-left ys zs (i - length xs) (omega arith))
-
-  -- put in anywhere at all, x adds its own measure
-  pub measure-insert : (x i : ℕ) (xs : List ℕ) → μ (insert x i xs) ≡ μ (x ∷ []) + μ xs
-  unfolding insert
-  measure-insert x i xs =
-      let l = take (i - 1) xs in
-      let r = drop (i - 1) xs in
-      omega (arith, additive l (x ∷ r), additive (x ∷ []) r, measure-parts (i - 1) xs)

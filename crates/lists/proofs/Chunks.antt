@@ -6,15 +6,15 @@ use native.Mathlib.Nat.{zero-add}
 use native.Mathlib.Omega.{arith}
 use lib.ListN.{length, take, drop, length-drop, take-append-drop}
 use lib.Seq.{length-take-le, take-all, take-take, take-append-le, drop-append-le, take-at, drop-at}
-use Rattle.pool.specs.Bytes.{from}
-use Rattle.pool_blocks.proofs.Stretches.{drop-stretch}
+use Rattle.lists.proofs.Cuts.{drop-stretch}
+use Rattle.lists.specs.Froms.{from}
 
 -- so many chunks of unit bytes
 unfoldable pub chunks : ℕ → ℕ → List ℕ → List (List ℕ)
 chunks unit zero xs = []
 chunks unit (suc many) xs = take unit xs ∷ chunks unit many (drop unit xs)
 
-pub chunks-length : (unit many : ℕ) (xs : List ℕ) → length (chunks unit many xs) ≡ many
+chunks-length : (unit many : ℕ) (xs : List ℕ) → length (chunks unit many xs) ≡ many
 unfolding chunks
 chunks-length unit zero xs = refl
 chunks-length unit (suc many) xs = ap suc (chunks-length unit many (drop unit xs))

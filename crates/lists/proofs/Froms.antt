@@ -1,20 +1,19 @@
 -- What a function gives for so many numbers, as a list: go down the list, and let the start move on.
 use mathlib.Core.Path.{_≡_, refl, sym, ap, ap₂, _∙_}
 use mathlib.Core.List.{List, [], _∷_, _++_, map}
-use mathlib.Core.Logic.{⊎-elim}
 use Prim.Native.Nat.{ℕ, zero, suc, _+_, _-_, _≤_, _<_}
 use native.Mathlib.Nat.{add-zero, zero-add}
+use native.Mathlib.Decide.{ℕ-discrete}
 use native.Mathlib.Omega.{arith}
 use lib.ListN.{length, getD, take, drop, set, length-set}
 use lib.Seq.{take-at, drop-at, ext-getD, getD-set-same, getD-set-other}
-use Rattle.sequence.specs.Alphabet.{sumBelow}
-use Rattle.sequence.specs.Items.{All}
-use Rattle.sequence.proofs.Counts.{isMark-cases}
-use Rattle.sequence.proofs.Items.{all-right}
-use Rattle.sequence.proofs.Measures.{Additive}
-use Rattle.shape.specs.Nested.{joined, total}
-use Rattle.shape.proofs.Folds.{total-append, total-joined}
-use Rattle.pool.specs.Bytes.{from}
+use Rattle.lists.specs.Items.{All}
+use Rattle.lists.specs.Froms.{from}
+use Rattle.lists.specs.Joins.{joined}
+use Rattle.lists.specs.Sums.{total, sumBelow}
+use Rattle.lists.proofs.Items.{all-right}
+use Rattle.lists.proofs.Measures.{Additive}
+use Rattle.lists.proofs.Sums.{total-append, total-joined}
 
 module _ {A : Type 0} where
   pub length-from : (f : ℕ → A) (k n : ℕ) → length (from f k n) ≡ n
@@ -22,7 +21,7 @@ module _ {A : Type 0} where
   length-from f k zero = refl
   length-from f k (suc n) = ap suc (length-from f (suc k) n)
 
-  pub getD-from : (f : ℕ → A) (k n i : ℕ) (d : A) → i < n → getD (from f k n) i d ≡ f (k + i)
+  getD-from : (f : ℕ → A) (k n i : ℕ) (d : A) → i < n → getD (from f k n) i d ≡ f (k + i)
   unfolding from
   getD-from f k zero i d h = absurd (omega arith)
   getD-from f k (suc n) zero d h = ap f (sym (add-zero k))
@@ -45,7 +44,7 @@ module _ {A : Type 0} where
   from-snoc f k n = let e : suc n ≡ n + 1 = omega arith in ap (from f k) e ∙ from-append f k n 1
 
   -- around number i
-  pub from-around : (f : ℕ → A) (n i : ℕ) → i < n → from f 0 n ≡ from f 0 i ++ f i ∷ from f (suc i) (n - suc i)
+  from-around : (f : ℕ → A) (n i : ℕ) → i < n → from f 0 n ≡ from f 0 i ++ f i ∷ from f (suc i) (n - suc i)
   unfolding from
   from-around f n i h =
       let e : n ≡ i + suc (n - suc i) = omega arith in
@@ -73,11 +72,11 @@ module _ {A : Type 0} where
   pub from-set : (f g : ℕ → A) (n x : ℕ) → x < n → ((i : ℕ) → i < n → (i ≡ x → ⊥) → g i ≡ f i) → from g 0 n ≡ set (from f 0 n) x (g x)
   from-set f g n x low e =
       ext-getD (g x) (from g 0 n) (set (from f 0 n) x (g x)) (length-from g 0 n ∙ sym (length-set (from f 0 n) x (g x) ∙ length-from f 0 n))
-      (λ i h.
-      let l : i < n = omega (arith, length-from g 0 n) in
-      getD-from-start g n i (g x) l
-      ∙ ⊎-elim (λ w. rw (w .0) (sym (getD-set-same (from f 0 n) x (g x) (g x) (omega (arith, length-from f 0 n)))))
-      (λ w. e i l (w .0) ∙ sym (getD-set-other (from f 0 n) x i (g x) (g x) (w .0) ∙ getD-from-start f n i (g x) l)) (isMark-cases x i))
+      (λ i h. let l : i < n = omega (arith, length-from g 0 n) in getD-from-start g n i (g x) l ∙ at i l (ℕ-discrete i x))
+    where
+      at : (i : ℕ) → i < n → Dec (i ≡ x) → g i ≡ getD (set (from f 0 n) x (g x)) i (g x)
+      at i l (yes here) = rw here (sym (getD-set-same (from f 0 n) x (g x) (g x) (omega (arith, length-from f 0 n))))
+      at i l (no other) = e i l other ∙ sym (getD-set-other (from f 0 n) x i (g x) (g x) other ∙ getD-from-start f n i (g x) l)
 
   -- what holds of each holds of all the list, and the other way round
   pub all-from : (P : A → Type 0) (f : ℕ → A) (k n : ℕ) → ((i : ℕ) → k ≤ i → i < k + n → P (f i)) → All P (from f k n)

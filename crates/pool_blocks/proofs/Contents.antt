@@ -1,29 +1,17 @@
--- Stretches of bytes: parts of them, those of a block's entries, and those of a block that a change leaves alone.
+-- A block's entries as a stretch of bytes, stretches of a block that a change leaves alone, and the bytes that so many entries take.
 use mathlib.Core.Path.{_≡_, ap, _∙_}
-use mathlib.Core.List.{List, _++_}
-use Prim.Native.Nat.{ℕ, _+_, _-_, _*_, _≤_}
+use mathlib.Core.List.{List}
+use Prim.Native.Nat.{ℕ, _+_, _*_, _≤_}
+use native.Mathlib.Nat.{mul-le-mul-left}
 use native.Mathlib.Omega.{arith}
-use lib.ListN.{length, take, drop}
-use lib.Seq.{drop-at}
+use lib.ListN.{take, drop}
+use Rattle.geometry.specs.Layout.{formAt}
 use Rattle.geometry.specs.Limits.{blockSize}
+use Rattle.lists.proofs.Cuts.{cut-same}
 use Rattle.pool.specs.Blocks.{entries}
 use Rattle.pool.specs.Bytes.{blockAt}
 use Rattle.pool.specs.Changes.{Only}
-use Rattle.pool.proofs.Cuts.{cut-length, cut-same, cut-two}
-use Rattle.pool_blocks.specs.Contents.{contents}
-
--- what stands behind the first n of a stretch
-pub drop-stretch : (p : List ℕ) (a n m : ℕ) → n ≤ m → a + m ≤ length p → drop n (take m (drop a p)) ≡ take (m - n) (drop (a + n) p)
-drop-stretch p a n m h fits =
-    let e : m ≡ n + (m - n) = omega arith in
-    ap (λ (k : ℕ). drop n (take k (drop a p))) e
-    ∙ ap (drop n) (cut-two p a n (m - n))
-    ∙ drop-at (take n (drop a p)) (take (m - n) (drop (a + n) p)) n (cut-length p a n (omega arith))
-
--- a stretch cut in three
-pub cut-three : (p : List ℕ) (a n m k : ℕ)
-    → take (n + (m + k)) (drop a p) ≡ take n (drop a p) ++ (take m (drop (a + n) p) ++ take k (drop (a + n + m) p))
-cut-three p a n m k = cut-two p a n (m + k) ∙ ap (λ (l : List ℕ). take n (drop a p) ++ l) (cut-two p (a + n) m k)
+use Rattle.pool_blocks.specs.Contents.{contents, Room}
 
 -- a block's entries, by their number and the bytes that so many take
 pub contents-is : (unit : ℕ) (p : List ℕ) (b n used : ℕ) → entries p b ≡ n → unit * n ≡ used → contents unit p b ≡ take used (drop (blockAt b) p)
@@ -40,3 +28,27 @@ module _ {These : ℕ → Type 0} {p q : List ℕ} (o : Only These p q) (b : ℕ
 
   pub start-other : (n : ℕ) → n ≤ blockSize → take n (drop (blockAt b) q) ≡ take n (drop (blockAt b) p)
   start-other n h = cut-same p q (blockAt b) n (o .long) (λ j below. o .others b other j (omega arith))
+
+-- k entries of so many that fit
+pub record Measured (unit k many : ℕ) : Type 0 where
+  pub front : unit * k ≤ unit * many
+  pub fits : unit * many ≤ formAt
+  pub few : many ≤ formAt
+
+-- where entries fit, fewer do
+pub room-fewer : (unit k many : ℕ) → k ≤ many → Room unit many → Room unit k
+room-fewer unit k many less room =
+    record {
+      few = omega (arith, room .few);
+      fits = omega (arith, mul-le-mul-left unit less, room .fits);
+    }
+
+-- n is what a block says, many what the code read
+pub measured : (unit k n many : ℕ) → many ≡ n → k ≤ n → Room unit n → Measured unit k many
+measured unit k n many is less room =
+    let bytes : unit * many ≡ unit * n = ap (λ (x : ℕ). unit * x) is in
+    record {
+      front = omega (arith, mul-le-mul-left unit less);
+      fits = omega (arith, room .fits);
+      few = omega (arith, room .few);
+    }

@@ -1,0 +1,4 @@
+pub mod Items
+pub mod Froms
+pub mod Joins
+pub mod Sums

@@ -1,0 +1,1 @@
+// Lists and sums over them: definitions and laws, and no code.
