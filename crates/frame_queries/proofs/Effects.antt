@@ -87,7 +87,7 @@ module _ (p : List â„•) (c : Command) (sound : Sound p) (status : statusIn p c â
         opened = opened;
         asked = open-record p (c .name) found opened read;
         long = rw read (opened .length);
-        most = rw read (opened .alphabetMost);
+        most = rw read (opened .entry .alphabetMost);
         high = rw read (opened .height);
         room = rw read (opened .room);
         few = rw read (marks-few p (c .name) sound low opened);

@@ -28,7 +28,7 @@ module _ (p : List ℕ) (name : ℕ) where
     -- the kind of a closed one
     pub closed-by-kind : (found : Record) → found ≡ recordOf p name → found .kind ≡ kindClosed → ClosedName p name
     closed-by-kind found read is =
-        ⊎-elim (λ c. c) (λ o. absurd (omega (arith, ap (λ (r : Record). r .kind) read, o .kind))) (sound .each name low)
+        ⊎-elim (λ c. c) (λ o. absurd (omega (arith, ap (λ (r : Record). r .kind) read, o .entry .kind))) (sound .each name low)
 
     pub closed-part : ClosedName p name → partOf (meaning p) name ≡ closed
     closed-part c = part-meaning p name low ∙ closed-meaning p name c
