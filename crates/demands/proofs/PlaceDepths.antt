@@ -21,22 +21,12 @@ use Rattle.protocol.specs.State.{partOf}
 use Rattle.shape.proofs.Descent.{path-leads}
 use Rattle.shape.specs.Paths.{Leads, path, leafAt, leftOf, rightOf}
 use Rattle.shape.specs.Trees.{marksT}
-use Rattle.demands.specs.Demand2.{Linked, lastOf, FromRootTo}
+use Rattle.demands.specs.Demand2.{lastOf, FromRootTo}
 
 module _ (p : List ℕ) where
-  first-entered : (b : ℕ) (ks : List ℕ) → getD (entered p b ks) 0 0 ≡ b
-  first-entered b [] = refl
-  first-entered b (k ∷ ks) = refl
-
-  linked-entered : (h b : ℕ) (ks : List ℕ) → Way p h b ks → Linked p (entered p b ks)
-  linked-entered h b [] way = tt
-  linked-entered zero b (k ∷ ks) way = absurd way
-  linked-entered (suc h) b (k ∷ []) way = ((k, way .0, refl), tt)
-  linked-entered (suc h) b (k ∷ l ∷ ks) way = ((k, way .0, refl), linked-entered h (link p b k) (l ∷ ks) (way .1))
-
   -- the path to a place of an open name
   pub path-to-place : (name : ℕ) → OpenName p name → (i : ℕ) → 1 ≤ i → i ≤ length (marksT (treeOf p name))
-      → FromRootTo p (pathOf p name i) (recordOf p name .root) i (marksT (treeOf p name))
+      → FromRootTo p (pathOf p name i) (recordOf p name .height) (recordOf p name .root) i (marksT (treeOf p name))
   path-to-place name open-name i low high =
       let h = recordOf p name .height in
       let b = recordOf p name .root in
@@ -47,9 +37,9 @@ module _ (p : List ℕ) where
       let end : lastOf (pathOf p name i) ≡ getD (pathAt p h i b) h 0 = ap (λ n. getD (pathAt p h i b) n 0) number in
       let leaf : leafMarks p (lastOf (pathOf p name i)) ≡ leafAt h ks x = ap (leafMarks p) end ∙ sym (path-ends p h i b (open-readable p name open-name)) in
       record {
-        first = first-entered b ks;
-        linked = linked-entered h b ks (path-way p length h i b (open-readable p name open-name));
-        left = leftOf h ks x;
+        numbers = ks;
+        way = path-way p length h i b (open-readable p name open-name);
+        blocks = refl;
         right = rightOf h ks x;
         marks = leads .marks ∙ ap (λ l. leftOf h ks x ++ (l ++ rightOf h ks x)) (sym leaf);
         past = omega (arith, leads .past);
