@@ -10,13 +10,13 @@ use Rattle.geometry.specs.Limits.{names, mostShares}
 use Rattle.machine.specs.Machine.{FilledPart, FilledState}
 use Rattle.pool.proofs.Meanings.{closed-meaning, open-meaning, part-meaning, no-part}
 use Rattle.pool.proofs.SoundNames.{open-filled, open-readable}
-use Rattle.pool.proofs.Ways.{Way, path-way, length-pathAt, path-ends}
+use Rattle.pool.proofs.Ways.{Way, length-entered, path-way, length-pathAt, path-ends}
 use Rattle.pool.specs.Blocks.{leafMarks, link}
 use Rattle.pool.specs.Bytes.{shares}
 use Rattle.pool.specs.Meaning.{meaning}
 use Rattle.pool.specs.Names.{recordOf, treeOf, pathOf}
 use Rattle.pool.specs.Sound.{OpenName, Sound}
-use Rattle.pool.specs.Trees.{shapeAt, entered, pathAt}
+use Rattle.pool.specs.Trees.{shapeAt, pathAt}
 use Rattle.protocol.specs.State.{partOf}
 use Rattle.shape.proofs.Descent.{path-leads}
 use Rattle.shape.specs.Paths.{Leads, path, leafAt, leftOf, rightOf}
@@ -45,6 +45,23 @@ module _ (p : List ℕ) where
         past = omega (arith, leads .past);
         within = omega (arith, leads .within high, ap length leaf);
       }
+
+  -- The definition forces the path's length, so no shorter or longer list of blocks meets it.
+  way-long : (h b : ℕ) (ks : List ℕ) → Way p h b ks → length ks ≡ h
+  way-long zero b [] way = refl
+  way-long zero b (k ∷ ks) way = absurd way
+  way-long (suc h) b [] way = absurd way
+  way-long (suc h) b (k ∷ ks) way = ap suc (way-long h (link p b k) ks (way .1))
+
+  pub path-long : (path : List ℕ) (h root i : ℕ) (all : List ℕ) → FromRootTo p path h root i all → length path ≡ suc h
+  path-long path h root i all from-root =
+      ap length (from-root .blocks)
+      ∙ length-entered p root (from-root .numbers)
+      ∙ ap suc (way-long h root (from-root .numbers) (from-root .way))
+
+  -- the root alone is no path in a tree with a branch, whatever its bytes say when they are read as a leaf's
+  pub root-alone-is-no-path : (h root i : ℕ) (all : List ℕ) → FromRootTo p (root ∷ []) (suc h) root i all → ⊥
+  root-alone-is-no-path h root i all from-root = omega (arith, path-long (root ∷ []) (suc h) root i all from-root)
 
   -- A sound pool's meaning.
   module _ (sound : Sound p) where

@@ -2,7 +2,7 @@
 -- answers and order of refusals. 'Full' exactly when the promised room is used up, 'no room' exactly when too few shares are
 -- unpromised."
 use mathlib.Core.Path.{_≡_}
-use mathlib.Core.List.{List, [], _∷_, _++_, map}
+use mathlib.Core.List.{List, _++_, map}
 use mathlib.Core.Logic.{_↔_, _≢_}
 use Prim.Native.Nat.{ℕ, _+_, _-_, _*_, _≤_, _<_}
 use lib.ListN.{length, getD, take}
