@@ -13,6 +13,9 @@ use Rattle.forfochry.proofs.mark.Met as MarkMet
 use Rattle.text_fixed_form.specs.Mark.{markOf, firstThatFits, rules, card}
 use Rattle.forfochry.proofs.format.Met as FormatMet
 use Rattle.forfochry.proofs.run.Met as RunMet
+use Rattle.forfochry.proofs.forfochry_format.Met as HostFormatMet
+use Rattle.forfochry.proofs.forfochry_mark.Met as HostMarkMet
+use Rattle.forfochry.proofs.forfochry_run.Met as HostRunMet
 use Rattle.call_run.proofs.Outcomes.{length-cases, same-outcome}
 use Rattle.call_run.specs.Calls.{Formats, Ran}
 use Rattle.call_run.specs.Runs.{commandsIn}
@@ -23,7 +26,7 @@ use Rattle.protocol.proofs.Respond.{refused-answers-zeros}
 use Rattle.protocol.specs.Frames.{bytesOfAnswer}
 use Rattle.protocol.specs.Respond.{refused}
 use Rattle.demands.specs.Accepted.{Frame, framesRun}
-use Rattle.demands.specs.Demand1.{FormatTakesAll, RefusedCommand, AcceptedCall, RunTakesAll, MarkTakesAll, Demand1, Demand1Ends}
+use Rattle.demands.specs.Demand1.{FormatTakesAll, RefusedCommand, AcceptedCall, RunTakesAll, MarkTakesAll, Demand1, Demand1Ends, Demand1Linked}
 use Rattle.demands.proofs.AcceptedCalls.{
   answers,
   runs,
@@ -120,16 +123,19 @@ demand-1 =
       mark = λ line r is. rw is (mark-takes-all line);
     }
 
+-- each contract is read off by computation, and that the code meets it is the function's own theorem
 pub demand-1-ends : Demand1Ends
 demand-1-ends =
     record {
-      formatEnds = λ M. FormatMet.met;
-      formatAsks = λ κs a w. refl;
-      formatPromises = λ κs a r s w. refl;
-      runEnds = λ M. RunMet.met;
-      runAsks = λ κs a w. refl;
-      runPromises = λ κs a r s w. refl;
-      markEnds = λ M. MarkMet.met;
-      markAsks = λ κs a w. refl;
-      markPromises = λ κs a r s w. refl;
+      format = record { ends = λ M. FormatMet.met; asks = λ κs a w. refl; promises = λ κs a r s w. refl };
+      run = record { ends = λ M. RunMet.met; asks = λ κs a w. refl; promises = λ κs a r s w. refl };
+      mark = record { ends = λ M. MarkMet.met; asks = λ κs a w. refl; promises = λ κs a r s w. refl };
+    }
+
+pub demand-1-linked : Demand1Linked
+demand-1-linked =
+    record {
+      format = record { ends = λ M. HostFormatMet.met; asks = λ κs a w. refl; promises = λ κs a r s w. refl };
+      run = record { ends = λ M. HostRunMet.met; asks = λ κs a w. refl; promises = λ κs a r s w. refl };
+      mark = record { ends = λ M. HostMarkMet.met; asks = λ κs a w. refl; promises = λ κs a r s w. refl };
     }

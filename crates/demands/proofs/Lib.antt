@@ -10,4 +10,5 @@ pub mod SecondDemand
 pub mod OneNameRuns
 pub mod OwnShapes
 pub mod ThirdDemand
+pub mod FreshFrames
 pub mod Premises

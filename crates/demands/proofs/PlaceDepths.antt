@@ -9,34 +9,25 @@ use lib.ListN.{length, getD, length-append}
 use Rattle.geometry.specs.Limits.{names, mostShares}
 use Rattle.machine.specs.Machine.{FilledPart, FilledState}
 use Rattle.pool.proofs.SoundNames.{open-filled, open-readable}
-use Rattle.pool.proofs.Ways.{Way, path-way, length-pathAt, path-ends}
+use Rattle.pool.proofs.Ways.{length-entered, path-way, length-pathAt, path-ends}
 use Rattle.pool.specs.Blocks.{leafMarks, link}
 use Rattle.pool.specs.Bytes.{shares}
 use Rattle.pool.specs.Meaning.{meaning}
 use Rattle.pool.specs.Names.{recordOf, treeOf, pathOf}
 use Rattle.pool.specs.Sound.{OpenName, Sound}
-use Rattle.pool.specs.Trees.{shapeAt, entered, pathAt}
+use Rattle.pool.specs.Trees.{shapeAt, Way, pathAt}
 use Rattle.protocol.specs.State.{partOf}
 use Rattle.shape.proofs.Descent.{path-leads}
 use Rattle.shape.specs.Paths.{Leads, path, leafAt, leftOf, rightOf}
 use Rattle.shape.specs.Trees.{marksT}
 use Rattle.pool.proofs.Meaning.{closed-meaning, open-meaning, part-meaning, no-part}
-use Rattle.demands.specs.Demand2.{Linked, lastOf, FromRootTo}
+use Rattle.demands.specs.Demand2.{lastOf, FromRootTo}
+use Rattle.demands.specs.Demand2.{lastOf, FromRootTo}
 
 module _ (p : List ℕ) where
-  first-entered : (b : ℕ) (ks : List ℕ) → getD (entered p b ks) 0 0 ≡ b
-  first-entered b [] = refl
-  first-entered b (k ∷ ks) = refl
-
-  linked-entered : (h b : ℕ) (ks : List ℕ) → Way p h b ks → Linked p (entered p b ks)
-  linked-entered h b [] way = tt
-  linked-entered zero b (k ∷ ks) way = absurd way
-  linked-entered (suc h) b (k ∷ []) way = ((k, way .0, refl), tt)
-  linked-entered (suc h) b (k ∷ l ∷ ks) way = ((k, way .0, refl), linked-entered h (link p b k) (l ∷ ks) (way .1))
-
   -- the path to a place of an open name
   pub path-to-place : (name : ℕ) → OpenName p name → (i : ℕ) → 1 ≤ i → i ≤ length (marksT (treeOf p name))
-      → FromRootTo p (pathOf p name i) (recordOf p name .root) i (marksT (treeOf p name))
+      → FromRootTo p (pathOf p name i) (recordOf p name .height) (recordOf p name .root) i (marksT (treeOf p name))
   path-to-place name open-name i low high =
       let h = recordOf p name .height in
       let b = recordOf p name .root in
@@ -47,14 +38,31 @@ module _ (p : List ℕ) where
       let end : lastOf (pathOf p name i) ≡ getD (pathAt p h i b) h 0 = ap (λ n. getD (pathAt p h i b) n 0) number in
       let leaf : leafMarks p (lastOf (pathOf p name i)) ≡ leafAt h ks x = ap (leafMarks p) end ∙ sym (path-ends p h i b (open-readable p name open-name)) in
       record {
-        first = first-entered b ks;
-        linked = linked-entered h b ks (path-way p length h i b (open-readable p name open-name));
-        left = leftOf h ks x;
+        numbers = ks;
+        way = path-way p length h i b (open-readable p name open-name);
+        blocks = refl;
         right = rightOf h ks x;
         marks = leads .marks ∙ ap (λ l. leftOf h ks x ++ (l ++ rightOf h ks x)) (sym leaf);
         past = omega (arith, leads .past);
         within = omega (arith, leads .within high, ap length leaf);
       }
+
+  -- The definition forces the path's length, so no shorter or longer list of blocks meets it.
+  way-long : (h b : ℕ) (ks : List ℕ) → Way p h b ks → length ks ≡ h
+  way-long zero b [] way = refl
+  way-long zero b (k ∷ ks) way = absurd way
+  way-long (suc h) b [] way = absurd way
+  way-long (suc h) b (k ∷ ks) way = ap suc (way-long h (link p b k) ks (way .1))
+
+  pub path-long : (path : List ℕ) (h root i : ℕ) (all : List ℕ) → FromRootTo p path h root i all → length path ≡ suc h
+  path-long path h root i all from-root =
+      ap length (from-root .blocks)
+      ∙ length-entered p root (from-root .numbers)
+      ∙ ap suc (way-long h root (from-root .numbers) (from-root .way))
+
+  -- the root alone is no path in a tree with a branch, whatever its bytes say when they are read as a leaf's
+  pub root-alone-is-no-path : (h root i : ℕ) (all : List ℕ) → FromRootTo p (root ∷ []) (suc h) root i all → ⊥
+  root-alone-is-no-path h root i all from-root = omega (arith, path-long (root ∷ []) (suc h) root i all from-root)
 
   -- A sound pool's meaning.
   module _ (sound : Sound p) where

@@ -12,8 +12,9 @@ use Rattle.machine.proofs.Machine.{image-of-respond}
 use Rattle.machine.specs.Depth.{DepthTold}
 use Rattle.machine.specs.Machine.{trees}
 use Rattle.pool.proofs.SoundNames.{open-depth}
+use Rattle.pool.proofs.SoundNames.{closed-blocks, open-blocks-most, open-depth, open-depth-rule}
 use Rattle.pool.specs.Meaning.{meaning}
-use Rattle.pool.specs.Names.{recordOf, treeOf}
+use Rattle.pool.specs.Names.{recordOf, treeOf, blocksOf, pathOf}
 use Rattle.pool.specs.Sound.{OpenName, Sound}
 use Rattle.protocol.proofs.Accepted.{access-accepted, name-is-below}
 use Rattle.protocol.proofs.Edges.{edges-hold}
@@ -23,8 +24,9 @@ use Rattle.protocol.specs.Commands.{openCode, insertCode, accessCode}
 use Rattle.protocol.specs.Refusals.{statusOf}
 use Rattle.protocol.specs.Frames.{bytesOfAnswer}
 use Rattle.protocol.specs.Respond.{withoutDepth, answersTo, stateAfter}
-use Rattle.protocol.specs.State.{closed, isOpen, partOf, marksOf, unpromised, lists, partAsList, asLists}
+use Rattle.protocol.specs.State.{closed, opened, isOpen, partOf, sharesOf, marksOf, unpromised, lists, partAsList, asLists}
 use Rattle.sequence.proofs.Selects.{rank-select, access-select, select-rank}
+use Rattle.shape.specs.Depth.{DepthRule}
 use Rattle.shape.specs.Trees.{marksT}
 use Rattle.pool.proofs.Meaning.{closed-meaning, open-meaning, part-meaning, valid-meaning}
 use Rattle.demands.specs.Accepted.{Frame, Call, Session, commandsOf}
@@ -90,11 +92,14 @@ named-is-open : (p : List ℕ) (name : ℕ) → Sound p → name < names → isO
 named-is-open p name sound low is =
     ⊎-elim (λ c. absurd (false≢true (sym (ap isOpen (part-meaning p name low ∙ closed-meaning p name c)) ∙ is))) (λ o. o) (sound .each name low)
 
--- and its marks as a list are those of its tree
+-- what a sound pool holds of an open name is its record's shares and its tree's marks
+part-of-open : (p : List ℕ) (name : ℕ) → name < names → OpenName p name
+    → partOf (held p) name ≡ opened (recordOf p name .alphabet) (recordOf p name .q) (marksT (treeOf p name))
+part-of-open p name low open-name =
+    List·getD-map (partAsList trees) (meaning p .parts) name closed ∙ ap (partAsList trees) (part-meaning p name low ∙ open-meaning p name open-name)
+
 marks-of-tree : (p : List ℕ) (name : ℕ) → name < names → OpenName p name → marksOf lists (partOf (held p) name) ≡ marksT (treeOf p name)
-marks-of-tree p name low open-name =
-    ap (marksOf lists)
-    (List·getD-map (partAsList trees) (meaning p .parts) name closed ∙ ap (partAsList trees) (part-meaning p name low ∙ open-meaning p name open-name))
+marks-of-tree p name low open-name = ap (marksOf lists) (part-of-open p name low open-name)
 
 module _ (f : Frame) (sound : Sound (f .before)) (step : IsStep f) where
   depth-of-place : f .command .code ≡ accessCode → f .answer .status ≡ 0 → DepthOfPlace f
@@ -143,6 +148,16 @@ module _ (f : Frame) (sound : Sound (f .before)) (step : IsStep f) where
         depth = depths;
       }
 
+-- Every sound pool.
+blocks-in-promise : (p : List ℕ) → Sound p → (name : ℕ) → name < names → length (blocksOf p name) ≤ sharesOf (partOf (held p) name)
+blocks-in-promise p sound name low =
+    ⊎-elim (λ closed-name. rw (closed-blocks p name closed-name) (omega arith))
+    (λ open-name. rw (part-of-open p name low open-name) (open-blocks-most p name open-name)) (sound .each name low)
+
+depths-in-rule : (p : List ℕ) → Sound p → (name : ℕ) → name < names → OpenName p name → (i : ℕ)
+    → DepthRule (length (marksOf lists (partOf (held p) name))) (length (pathOf p name i))
+depths-in-rule p sound name low open-name i = rw (marks-of-tree p name low open-name, ← open-name .length) (open-depth-rule p name open-name i)
+
 pub rank-and-select : (c : ℕ) (xs : List ℕ) → RankAndSelect c xs
 rank-and-select c xs =
     record { bears = access-select c xs; rankOfSelect = λ j low. rank-select c xs j; selectOfRank = select-rank c xs }
@@ -166,6 +181,8 @@ demand-2 =
     record {
       frames = λ p commands room r q filled ran zero. each-of-call p commands room r q filled ran zero Answers frame-answers;
       sound = sound-after;
+      blocks = blocks-in-promise;
+      depths = depths-in-rule;
       fresh = λ p fresh. (fresh-sound p fresh, fresh-held p fresh);
       edges = edges-hold;
       rankAndSelect = rank-and-select;

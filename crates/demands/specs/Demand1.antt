@@ -23,6 +23,16 @@ use Rattle.forfochry.proofs.format.Statement as Format
 use Rattle.forfochry.proofs.run as run
 use Rattle.forfochry.proofs.run.Reads as RunReads
 use Rattle.forfochry.proofs.run.Statement as Run
+use Rattle.forfochry.proofs.forfochry_format as hostFormat
+use Rattle.forfochry.proofs.forfochry_format.Reads as HostFormatReads
+use Rattle.forfochry.proofs.forfochry_format.Statement as HostFormat
+use Rattle.forfochry.proofs.forfochry_mark as hostMark
+use Rattle.forfochry.proofs.forfochry_mark.Reads as HostMarkReads
+use Rattle.forfochry.proofs.forfochry_mark.Statement as HostMark
+use Rattle.forfochry.proofs.forfochry_run as hostRun
+use Rattle.forfochry.proofs.forfochry_run.Reads as HostRunReads
+use Rattle.forfochry.proofs.forfochry_run.Statement as HostRun
+use Rattle.forfochry.specs.Numbers.{outcomeOf}
 use Rattle.call_run.specs.Alike.{SameOutcome}
 use Rattle.call_tests.specs.Tests.{StatusOfCall}
 use Rattle.call_run.specs.Calls.{Formats, Ran}
@@ -87,18 +97,30 @@ Nothing w = connectives (w .𝓤) .⊤ₛ
 abbrev pub Stated : (w : World) → Type 0 → Pr w
 Stated w This = connectives (w .𝓤) .⌜_⌝ This
 
--- each call's code, on whatever it is lent, ends safely and keeps its contract, which asks for nothing and promises the definition above
+-- a function's code, on whatever it is lent, ends safely and keeps its contract, which asks for nothing and promises this
 -- (a is what is lent, in turn, s the same at exit, r the result)
+pub record Keeps (n : ℕ) (Args Result Exit : Lfts n → Type 0) (statement : Type 1 → Type 2)
+    (requires : (κs : Lfts n) → Args κs → Unit {0} → (w : World) → Pr w)
+    (ensures : (κs : Lfts n) → Args κs → Unit {0} → Result κs → Exit κs → (w : World) → Pr w)
+    (This : (κs : Lfts n) → Args κs → Result κs → Exit κs → Type 0) : Type 2 where
+  pub ends : (M : Type 1) → statement M
+  pub asks : (κs : Lfts n) (a : Args κs) (w : World) → requires κs a tt w ≡ Nothing w
+  pub promises : (κs : Lfts n) (a : Args κs) (r : Result κs) (s : Exit κs) (w : World) → ensures κs a tt r s w ≡ Stated w (This κs a r s)
+
+-- the three calls, for programs in Rattle
 pub record Demand1Ends : Type 2 where
-  pub formatEnds : (M : Type 1) → Format.statement M
-  pub formatAsks : (κs : Lfts 1) (a : ArgsD format.signature κs) (w : World) → FormatReads.requires κs a tt w ≡ Nothing w
-  pub formatPromises : (κs : Lfts 1) (a : ArgsD format.signature κs) (r : ResD format.signature κs) (s : AtExit format.ended κs) (w : World)
-      → FormatReads.ensures κs a tt r s w ≡ Stated w (Formats (now (a .0)) r (now (s .0)))
-  pub runEnds : (M : Type 1) → Run.statement M
-  pub runAsks : (κs : Lfts 3) (a : ArgsD run.signature κs) (w : World) → RunReads.requires κs a tt w ≡ Nothing w
-  pub runPromises : (κs : Lfts 3) (a : ArgsD run.signature κs) (r : ResD run.signature κs) (s : AtExit run.ended κs) (w : World)
-      → RunReads.ensures κs a tt r s w ≡ Stated w (Ran (now (a .0)) (now (a .1 .0)) (now (a .1 .1 .0)) r (now (s .0)) (now (s .1 .1 .0)))
-  pub markEnds : (M : Type 1) → Mark.statement M
-  pub markAsks : (κs : Lfts 1) (a : ArgsD mark.signature κs) (w : World) → MarkReads.requires κs a tt w ≡ Nothing w
-  pub markPromises : (κs : Lfts 1) (a : ArgsD mark.signature κs) (r : ResD mark.signature κs) (s : AtExit mark.ended κs) (w : World)
-      → MarkReads.ensures κs a tt r s w ≡ Stated w (r ≡ markOf (now (a .0)))
+  pub format : Keeps 1 (ArgsD format.signature) (ResD format.signature) (AtExit format.ended) Format.statement FormatReads.requires
+      FormatReads.ensures (λ κs a r s. Formats (now (a .0)) r (now (s .0)))
+  pub run : Keeps 3 (ArgsD run.signature) (ResD run.signature) (AtExit run.ended) Run.statement RunReads.requires RunReads.ensures
+      (λ κs a r s. Ran (now (a .0)) (now (a .1 .0)) (now (a .1 .1 .0)) r (now (s .0)) (now (s .1 .1 .0)))
+  pub mark : Keeps 1 (ArgsD mark.signature) (ResD mark.signature) (AtExit mark.ended) Mark.statement MarkReads.requires MarkReads.ensures
+      (λ κs a r s. r ≡ markOf (now (a .0)))
+
+-- and the same as hosts link them
+pub record Demand1Linked : Type 2 where
+  pub format : Keeps 1 (ArgsD hostFormat.signature) (ResD hostFormat.signature) (AtExit hostFormat.ended) HostFormat.statement
+      HostFormatReads.requires HostFormatReads.ensures (λ κs a r s. Formats (now (a .0)) r (now (s .0)))
+  pub run : Keeps 3 (ArgsD hostRun.signature) (ResD hostRun.signature) (AtExit hostRun.ended) HostRun.statement HostRunReads.requires
+      HostRunReads.ensures (λ κs a r s. Ran (now (a .0)) (now (a .1 .0)) (now (a .1 .1 .0)) (outcomeOf r) (now (s .0)) (now (s .1 .1 .0)))
+  pub mark : Keeps 1 (ArgsD hostMark.signature) (ResD hostMark.signature) (AtExit hostMark.ended) HostMark.statement HostMarkReads.requires
+      HostMarkReads.ensures (λ κs a r s. r ≡ markOf (now (a .0)))

@@ -2,20 +2,21 @@
 -- and the order of refusals of the rules. 'Full' is given exactly where the promised room is used up, 'no room' exactly where too few
 -- shares are unpromised.
 use mathlib.Core.Path.{_≡_}
-use mathlib.Core.List.{List, [], _∷_, _++_, map}
+use mathlib.Core.List.{List, _++_, map}
 use mathlib.Core.Logic.{_↔_, _≢_}
 use Prim.Native.Nat.{ℕ, _+_, _-_, _*_, _≤_, _<_}
 use lib.ListN.{length, getD, take}
-use Rattle.geometry.specs.Limits.{marksPerShare}
 use Rattle.lists.specs.Items.{All}
+use Rattle.geometry.specs.Limits.{names, marksPerShare}
 use Rattle.call_run.specs.Calls.{Ran}
 use Rattle.call_tests.specs.declared.Outcome.{Outcome}
 use Rattle.machine.specs.Machine.{trees}
-use Rattle.pool.specs.Blocks.{entries, leafMarks, link}
+use Rattle.pool.specs.Blocks.{leafMarks}
 use Rattle.pool.specs.Bytes.{shares}
 use Rattle.pool.specs.Meaning.{meaning}
-use Rattle.pool.specs.Names.{recordOf, pathOf}
-use Rattle.pool.specs.Sound.{Sound}
+use Rattle.pool.specs.Names.{recordOf, blocksOf, pathOf}
+use Rattle.pool.specs.Sound.{OpenName, Sound}
+use Rattle.pool.specs.Trees.{shapeAt, Way, entered}
 use Rattle.protocol.specs.Commands.{openCode, insertCode, deleteCode, accessCode, rankCode, selectCode}
 use Rattle.protocol.specs.Edges.{edges, answered}
 use Rattle.protocol.specs.Refusals.{NoneApplies, Lowest, refusals}
@@ -23,6 +24,7 @@ use Rattle.protocol.specs.Respond.{respond, withoutDepth}
 use Rattle.protocol.specs.State.{Part, State, freshState, partOf, sharesOf, marksOf, unpromised, lists, asLists}
 use Rattle.sequence.specs.Definition1.{count, access, rank, select, insert, delete}
 use Rattle.shape.specs.Depth.{DepthRule}
+use Rattle.shape.specs.Paths.{leftOf}
 use Rattle.demands.specs.Accepted.{Frame, framesRun, Fresh, Call, Session, commandsOf, answersOf}
 
 -- what a pool holds: its shares, and for each name nothing, or an alphabet size, the shares promised and a list of marks
@@ -87,31 +89,26 @@ TooFewShares f = free f < f .command .number
 
 -- The depth.
 
--- each block but the first is one that the block before it links to as a child
-abbrev pub Linked : List ℕ → List ℕ → Type 0
-Linked p [] = Unit {0}
-Linked p (b ∷ []) = Unit {0}
-Linked p (b ∷ c ∷ bs) = ((k : ℕ) × (k < entries p b) × (c ≡ link p b k)) × Linked p (c ∷ bs)
-
 -- the last of some blocks
 abbrev pub lastOf : List ℕ → ℕ
 lastOf path = getD path (length path - 1) 0
 
--- these blocks stand from the root to the leaf that bears place i: the leaf's marks follow those left of it, and the place is among them
-pub record FromRootTo (p path : List ℕ) (root i : ℕ) (all : List ℕ) : Type 0 where
-  pub first : getD path 0 0 ≡ root
-  pub linked : Linked p path
-  pub left : List ℕ
+-- these blocks stand from the root, a block of level h, to the leaf that bears place i: at each level the child of that number is entered,
+-- the leaf's marks follow those below the children passed, and the place is among them
+pub record FromRootTo (p path : List ℕ) (h root i : ℕ) (all : List ℕ) : Type 0 where
+  pub numbers : List ℕ
+  pub way : Way p h root numbers
+  pub blocks : path ≡ entered p root numbers
   pub right : List ℕ
-  pub marks : all ≡ left ++ (leafMarks p (lastOf path) ++ right)
-  pub past : length left < i
-  pub within : i ≤ length left + length (leafMarks p (lastOf path))
+  pub marks : all ≡ leftOf h numbers (shapeAt p h root) ++ (leafMarks p (lastOf path) ++ right)
+  pub past : length (leftOf h numbers (shapeAt p h root)) < i
+  pub within : i ≤ length (leftOf h numbers (shapeAt p h root)) + length (leafMarks p (lastOf path))
 
 -- an access that isn't refused tells how many blocks stand from the root to the block that bears the place, by the depth rule
 pub record DepthOfPlace (f : Frame) : Type 0 where
   pub own : f .answer .depth ≡ length (pathOf (f .before) (f .command .name) (f .command .number))
   pub path : FromRootTo (f .before) (pathOf (f .before) (f .command .name) (f .command .number))
-      (recordOf (f .before) (f .command .name) .root) (f .command .number) (marks f)
+      (recordOf (f .before) (f .command .name) .height) (recordOf (f .before) (f .command .name) .root) (f .command .number) (marks f)
   pub rule : DepthRule (length (marks f)) (f .answer .depth)
   pub same : f .after ≡ f .before
 
@@ -150,6 +147,10 @@ pub record Demand2 : Type 0 where
   pub frames : (p commands room : List ℕ) (r : Outcome) (q filled : List ℕ) (ran : Ran p commands room r q filled) (zero : r .status ≡ 0)
       → All Answers (framesRun ran zero)
   pub sound : (p commands room : List ℕ) (r : Outcome) (q filled : List ℕ) → Ran p commands room r q filled → r .status ≡ 0 → Sound q
+  -- in a sound pool no name holds more blocks than the shares it was promised, and every depth keeps to the rule
+  pub blocks : (p : List ℕ) → Sound p → (x : ℕ) → x < names → length (blocksOf p x) ≤ sharesOf (partOf (held p) x)
+  pub depths : (p : List ℕ) → Sound p → (x : ℕ) → x < names → OpenName p x → (i : ℕ)
+      → DepthRule (length (marksOf lists (partOf (held p) x))) (length (pathOf p x i))
   -- a formatted pool is sound, with every name closed
   pub fresh : (p : List ℕ) → Fresh p → Sound p × (held p ≡ freshState (shares p))
   -- RULES, Edges

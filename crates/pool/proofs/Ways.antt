@@ -16,20 +16,13 @@ use Rattle.shape.specs.Paths.{path, leafAt}
 use Rattle.shape.proofs.Height.{length-path}
 use Rattle.shape.proofs.Seat.{by-taker, seat-takes}
 use Rattle.pool.specs.Blocks.{entries, leafMarks, link}
-use Rattle.pool.specs.Trees.{shapeAt, blocksAt, entered, pathAt}
+use Rattle.pool.specs.Trees.{shapeAt, blocksAt, Way, entered, pathAt}
 use Rattle.pool.proofs.Trees.{length-shape, child-shape, blocks-child}
 
 -- every block of the tree has no more entries than fit, and a branch has a child
 abbrev pub Readable : List ℕ → ℕ → ℕ → Type 0
 Readable p zero b = entries p b ≤ mostLeaf
 Readable p (suc h) b = Within 1 mostBranch (entries p b) × ((k : ℕ) → k < entries p b → Readable p h (link p b k))
-
--- numbers of children from a block of level h down to a leaf
-abbrev pub Way : List ℕ → ℕ → ℕ → List ℕ → Type 0
-Way p zero b [] = Unit {0}
-Way p zero b (k ∷ ks) = ⊥
-Way p (suc h) b [] = ⊥
-Way p (suc h) b (k ∷ ks) = (k < entries p b) × Way p h (link p b k) ks
 
 seat-below : {A : Type 0} (f : A → ℕ) (i : ℕ) (xs : List A) → 0 < length xs → seat f i xs < length xs
 seat-below f i xs some =

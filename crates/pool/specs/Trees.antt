@@ -1,6 +1,6 @@
 -- What stands below a block of a level: its shape, its blocks, the way down to a place, and what its own bytes say of its marks.
 use mathlib.Core.List.{List, [], _∷_, map}
-use Prim.Native.Nat.{ℕ, zero, suc}
+use Prim.Native.Nat.{ℕ, zero, suc, _<_}
 use lib.ListN.{length}
 use Rattle.lists.specs.Joins.{joined}
 use Rattle.lists.specs.Sums.{sumBelow}
@@ -23,6 +23,13 @@ treeAt p h b = record { height = h; root = shapeAt p h b }
 abbrev pub blocksAt : List ℕ → ℕ → ℕ → List ℕ
 blocksAt p zero b = b ∷ []
 blocksAt p (suc h) b = b ∷ joined (blocksAt p h) (children p b)
+
+-- numbers of children from a block of level h down to a leaf
+abbrev pub Way : List ℕ → ℕ → ℕ → List ℕ → Type 0
+Way p zero b [] = Unit {0}
+Way p zero b (k ∷ ks) = ⊥
+Way p (suc h) b [] = ⊥
+Way p (suc h) b (k ∷ ks) = (k < entries p b) × Way p h (link p b k) ks
 
 -- the blocks entered on the way down by these numbers of children
 abbrev pub entered : List ℕ → ℕ → List ℕ → List ℕ
