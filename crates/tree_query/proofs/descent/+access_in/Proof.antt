@@ -47,10 +47,10 @@ pub +access-in-spec : {M : Type 1} → statement M
     (access-in-at t)
     access-in.Post
     (λ c. omega arith)
-    (λ c κs. search (leaf-at, leaf-place))  -- mark-at-requires
+    (λ c κs. (search leaf-at, search needs, search leaf-place))  -- mark-at-requires
     (λ c. search leaf-found)  -- returns
-    (λ c κs. search (branch-inside t, branch-least t, branch-most t, needs))  -- seat-by-requires
-    (λ c κs. search (branch-inside t, branch-most t, seated-low))  -- link-requires
+    (λ c κs. ((search (branch-inside t), search needs), (search (branch-least t), search (branch-most t))))  -- seat-by-requires
+    (λ c κs. (search (branch-inside t), search (seated-low, branch-most t)))  -- link-requires
     (λ c. search pos-of-ne-zero)  -- sub-access-in
     (λ c. search seated-before)  -- sub-access-in-2
     (λ c κs. (search level-falls, (search child-good, (search seated-left, search place-left, search needs))))  -- access-in-requires

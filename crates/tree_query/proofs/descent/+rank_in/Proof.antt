@@ -49,9 +49,9 @@ pub +rank-in-spec : {M : Type 1} → statement M
 +rank-in-spec = close μ-rank-in λ t. rank-in-lts.spec (told t)
     (rank-in-at t)
     rank-in.Post
-    (λ c κs. search (leaf-at, leaf-place))  -- count-marks-requires
+    (λ c κs. (search leaf-at, search leaf-place))  -- count-marks-requires
     (λ c. search leaf-flat)  -- returns
-    (λ c κs. search (branch-inside t, branch-least t, branch-most t, needs))  -- seat-by-requires
+    (λ c κs. ((search (branch-inside t), search needs), (search (branch-least t), search (branch-most t))))  -- seat-by-requires
     (λ c. omega arith)
     (λ c. omega arith)
     (λ c κs. search (branch-inside t, branch-most t, seated-low, needs))  -- words-before-requires
