@@ -103,7 +103,8 @@ fn take_line(
 fn put_line(line: &[u8], out: &mut [u8], lines: usize, commands: &mut [u8], frames: usize) -> usize
     requires { ⌜ (lineSize * (lines + 1) ≤ length (now out)) × (frameSize * (frames + 1) ≤ length (now commands)) ⌝ }
     ensures { λ r.
-        ⌜ PutsLine (now (line .entry)) lines frames (now (out .entry)) (now (out .exit)) (now (commands .entry)) (now (commands .exit)) r ⌝ }
+        ⌜ PutsLine (now (line .entry)) lines frames (now (out .entry)) (now (out .exit))
+        (now (commands .entry)) (now (commands .exit)) r ⌝ }
 {
     let at = LINE_SIZE * lines;
     let Reading::Frame {

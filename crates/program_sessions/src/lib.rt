@@ -72,7 +72,8 @@ fn answer(pool: &mut [u8], commands: &[u8], out: &mut [u8], lines: usize) -> usi
 // The input is over: answers its last line, if that has no line feed but a byte, as if the line feed had come.
 pub fn finish(before: Gathered, keep: &mut [u8], pool: &mut [u8], out: &mut [u8]) -> usize
     ensures { λ r.
-        ⌜ SessionEnds before (now (keep .entry)) (now (keep .exit)) (now (pool .entry)) (now (pool .exit)) (now (out .entry)) (now (out .exit)) r ⌝ }
+        ⌜ SessionEnds before (now (keep .entry)) (now (keep .exit)) (now (pool .entry)) (now (pool .exit))
+        (now (out .entry)) (now (out .exit)) r ⌝ }
 {
     if before.length == 0 {
         return 0;

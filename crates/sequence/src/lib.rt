@@ -2,7 +2,7 @@
 ghost use mathlib.Core.Path.{_≡_};
 ghost use Prim.Native.Nat.{_-_, _≤_};
 ghost use lib.ListN.{length, take, drop};
-ghost use Rattle.sequence.specs.Definition1.{count, rank, select};
+ghost use Rattle.sequence.specs.Definition1.{count, select};
 
 // How many of the marks from the index `from` up to, not including, `to` are `symbol`, where these are at most 255.
 // The counter is a byte, so that the compiler counts sixteen marks at once.
@@ -33,14 +33,6 @@ pub fn count_in(marks: &[u8], from: usize, to: usize, symbol: u8) -> usize
         start += 255;
     }
     met + count_short(marks, start, to, symbol)
-}
-
-// The rank of `symbol` at `place`: how many of the places 1 to `place` bear it.
-pub fn rank_at(marks: &[u8], symbol: u8, place: usize) -> usize
-    requires { ⌜ place ≤ length (now marks) ⌝ }
-    ensures { λ r. ⌜ r ≡ rank symbol (now (marks .entry)) place ⌝ }
-{
-    count_in(marks, 0, place, symbol)
 }
 
 // The place of the j-th `symbol`: 0 for the 0-th, the number of marks where there are fewer than j.

@@ -59,17 +59,14 @@ fn stretches_agree(marks: &[u8], starts: usize, symbol: u8) -> bool {
     true
 }
 
-// Every rank, and the place of every j-th, from the first to one that is too many.
+// The place of every j-th, from the first to one that is too many.
 fn places_agree(marks: &[u8], symbol: u8) -> bool {
-    let mut place = 0;
-    while place <= marks.len() {
-        if sequence::rank_at(marks, symbol, place) != plain_count(marks, 0, place, symbol) {
+    let mut before = 0;
+    while before <= marks.len() {
+        if sequence::find(marks, symbol, before + 1) != plain_place(marks, symbol, before + 1) {
             return false;
         }
-        if sequence::find(marks, symbol, place + 1) != plain_place(marks, symbol, place + 1) {
-            return false;
-        }
-        place += 1;
+        before += 1;
     }
     true
 }

@@ -46,7 +46,8 @@ chosen f i xs = getD xs (seat f i xs) []
 unfoldable pub inChild : {A : Type 0} → (List A → ℕ) → (ℕ → List A → List (List A)) → ℕ → List (List A) → List (List A)
 inChild f edit i xs = take (seat f i xs) xs ++ (edit (rest f i xs) (chosen f i xs) ++ drop (suc (seat f i xs)) xs)
 
--- the item x takes i between those before and those after it: those before add up to less than i, and with x to i at least; the first takes 0, and the last all that is left
+-- the item x takes i between those before and those after it: those before add up to less than i, and with x to i at least;
+-- the first takes 0, and the last all that is left
 pub record Takes {A : Type 0} (f : A → ℕ) (i : ℕ) (before : List A) (x : A) (after : List A) : Type 0 where
   pub past : 0 < length before → total f before < i
   pub reach : 0 < length after → i ≤ total f before + f x

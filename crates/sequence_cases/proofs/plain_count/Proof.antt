@@ -12,37 +12,16 @@ Inv-loop marks from to symbol met₀ i₀ met i = met + from ≤ i
 abbrev μ-loop : tie.MeasureT-loop
 μ-loop marks from to symbol met₀ i₀ met i = to - i
 
-loop-holds : tie.Need-loop-holds Inv-loop μ-loop
-loop-holds c = search needs
-
-shared-slice-read-if1 : tie.Need-shared-slice-read-if1 Inv-loop μ-loop
-shared-slice-read-if1 c = search needs
-
-add-met : tie.Need-add-met Inv-loop μ-loop
-add-met c = search needs
-
-add-i : tie.Need-add-i Inv-loop μ-loop
-add-i c = search needs
-
-loop-less : tie.Need-loop-less Inv-loop μ-loop
-loop-less c = search needs
-
-loop-again : tie.Need-loop-again Inv-loop μ-loop
-loop-again c = ⊎-elim (λ w. omega arith) (λ w. omega arith) (c .if1 .came)
-
-returns : tie.Need-returns Inv-loop μ-loop
-returns c = search needs
-
 pub plain-count-spec : {M : Type 1} → statement M
 plain-count-spec =
     tie.close
     (tie.spec
     Inv-loop
     μ-loop
-    loop-holds
-    shared-slice-read-if1
-    add-met
-    add-i
-    loop-less
-    loop-again
-    returns)
+    (λ c. search needs)
+    (λ c. search needs)
+    (λ c. search needs)
+    (λ c. search needs)
+    (λ c. search needs)
+    (λ c. ⊎-elim (λ w. omega arith) (λ w. omega arith) (c .if1 .came))  -- loop-again
+    (λ c. search needs))
