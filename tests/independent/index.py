@@ -1,6 +1,6 @@
 """The index of docs/RULES.md as flat lists, with the shape of each name's tree beside them for the depth.
 
-Written from the rules alone; nothing here is shared with the code under test.
+Written from docs/RULES.md, and the depth from the shape rules that crates/shape has; no code is shared with what is tested.
 """
 
 FIELDS = {  # code: whether the symbol and the number are used
