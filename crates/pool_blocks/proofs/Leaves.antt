@@ -33,9 +33,6 @@ module _ (p : List ℕ) (b : ℕ) (leaf : LeafAt p b) where
   unfolding leafMarks
   leaf-size = cut-length p (blockAt b) (entries p b) (omega (arith, leaf .inside, leaf .fits))
 
-  pub size-is : (r : ℕ) → Is (entries p b) r → r ≡ length (leafMarks p b)
-  size-is r is = is .is ∙ sym leaf-size
-
   -- places of the leaf's marks, as bytes and as numbers of entries
   module _ (i : ℕ) (within : i ≤ length (leafMarks p b)) where
     pub place-few : i ≤ blockSize

@@ -23,14 +23,6 @@ use sequence::find;
 // How many marks a search passes at once.
 const STRIDE: usize = 16;
 
-// How many marks the leaf has.
-pub fn size(pool: &[u8], b: usize) -> usize
-    requires { ⌜ LeafAt (now pool) b ⌝ }
-    ensures { λ r. ⌜ r ≡ length (leafMarks (now (pool .entry)) b) ⌝ }
-{
-    entry_count(pool, b)
-}
-
 // The mark at place i.
 pub fn mark_at(pool: &[u8], b: usize, i: usize) -> u8
     requires { ⌜ LeafAt (now pool) b × (1 ≤ i) × (i ≤ length (leafMarks (now pool) b)) ⌝ }

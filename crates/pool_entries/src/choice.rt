@@ -3,10 +3,9 @@ ghost use mathlib.Core.Path.{_≡_};
 ghost use Prim.Native.Nat.{_+_, _≤_, _<_};
 ghost use Rattle.geometry.specs.Layout.{leastBranch, mostBranch, entrySize, wordSize};
 ghost use Rattle.lists.specs.Sums.{sumBelow};
-ghost use Rattle.pool.specs.Blocks.{entries, marksBelow};
+ghost use Rattle.pool.specs.Blocks.{entries};
 ghost use Rattle.pool.specs.Bytes.{shares};
 ghost use Rattle.pool_entries.specs.Summaries.{wordsAt};
-ghost use Rattle.pool_entries.specs.Summaries.{Is, wordsAt};
 ghost use Rattle.pool_entries.specs.Seats.{Seated};
 use crate::Seat;
 use crate::reads::entry_count;
@@ -38,14 +37,6 @@ pub fn seat_by(pool: &[u8], b: usize, offset: usize, i: usize) -> Seat
         before = both;
     }
     Seat { k, before }
-}
-
-// The child of the branch b that takes place i, and how many marks stand before it.
-pub fn find_child(pool: &[u8], b: usize, i: usize) -> Seat
-    requires { ⌜ (b < shares (now pool)) × (leastBranch ≤ entries (now pool) b) × (entries (now pool) b ≤ mostBranch) ⌝ }
-    ensures { λ r. ⌜ Seated (marksBelow (now (pool .entry)) b) (entries (now (pool .entry)) b) i r ⌝ }
-{
-    seat_by(pool, b, Record::ENTRY_MARKS_AT, i)
 }
 
 // What the words of the first k entries add up to.

@@ -8,7 +8,6 @@ mod sizes;
 mod stores;
 mod sums;
 
-pub use choice::find_child;
 pub use choice::seat_by;
 pub use choice::words_before;
 pub use reads::count_below;

@@ -6,7 +6,7 @@ use native.Mathlib.Numerals.{add-one}
 use native.Mathlib.Omega.{arith}
 use lib.ListN.{getD, set, length-set}
 use lib.Seq.{getD-set-same, getD-set-other}
-use Rattle.geometry.specs.Layout.{leastBranch, mostBranch, mostHeight}
+use Rattle.geometry.specs.Layout.{leastBranch, mostBranch, mostHeight, entrySize, entryMarksAt, wordSize}
 use Rattle.shape.proofs.Choice.{by-leb}
 use Rattle.shape.specs.Fill.{rootLeast}
 use Rattle.pool.specs.Blocks.{entries, link, marksBelow}
@@ -202,8 +202,8 @@ module _ (p : List ℕ) (h b i l block place : ℕ) (blocks places children : Li
       at-branch (λ h d. SoundBlock p (rootLeast h) h block → leastBranch ≤ entries p block) l (λ e. omega arith) (λ h block. block .enough)
       (found .some .ready .block)
 
-  pub found-choice : (block < shares p) × (leastBranch ≤ entries p block) × (entries p block ≤ mostBranch)
-  found-choice = (found-inside, found-least, found-most)
+  pub found-choice : ((block < shares p) × (entryMarksAt + wordSize ≤ entrySize)) × ((leastBranch ≤ entries p block) × (entries p block ≤ mostBranch))
+  found-choice = ((found-inside, omega arith), (found-least, found-most))
 
   pub found-low : (s : Seat) → Seated (marksBelow p block) (entries p block) place s → s .k < mostBranch
   found-low s seated = seated-low (marksBelow p block) (entries p block) place s seated found-most

@@ -4,8 +4,8 @@ ghost use Prim.Native.Nat.{_≤_};
 ghost use Rattle.geometry.specs.Layout.{mostHeight};
 ghost use Rattle.tree_insert.specs.Ways.{Insertable, WayTo, LevelRoom};
 use geometry::Record;
-use pool_entries::find_child;
 use pool_entries::link;
+use pool_entries::seat_by;
 
 // A way has a block of each level, the leaves' too.
 pub const LEVELS: usize = Record::MOST_HEIGHT + 1;
@@ -31,7 +31,7 @@ pub fn find_way(
     blocks[at] = block;
     places[at] = place;
     while at > 0 {
-        let seat = find_child(pool, block, place);
+        let seat = seat_by(pool, block, Record::ENTRY_MARKS_AT, place);
         block = link(pool, block, seat.k);
         place -= seat.before;
         children[at] = seat.k;

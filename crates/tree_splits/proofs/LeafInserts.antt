@@ -27,6 +27,7 @@ use Rattle.pool.specs.Trees.{pathAt}
 use Rattle.pool.proofs.Blocks.{length-leaf}
 use Rattle.pool.proofs.Changes.{only-wider}
 use Rattle.pool_blocks.specs.Leaves.{MarkInserted}
+use Rattle.pool_entries.specs.Summaries.{Is}
 use Rattle.pool_holders.specs.Maps.{freeIn, BlockTaken}
 use Rattle.pool_holders.proofs.Takes.{taken-one, taken-free, taken-blocks, taken-entered, entered-none}
 use Rattle.tree_splits.proofs.SoundBlocks.{block-written}
@@ -55,28 +56,31 @@ module _ (b i c holder : ℕ) (p m : List ℕ) (ready : InsertReady p m 0 b i c 
   leaf-whole room = cond-lt mostLeaf (length (leafMarks p b)) 1 0 room
 
   -- what its split needs, by the size that was read
-  module _ (many : ℕ) (size : many ≡ length (leafMarks p b)) (full : mostLeaf ≤ many) where
+  module _ (many : ℕ) (size : Is (entries p b) many) (full : mostLeaf ≤ many) where
     pub full-room : 1 ≤ freeIn m
-    full-room = omega (arith, ready .room, leaf-splits (omega arith))
+    full-room = omega (arith, ready .room, leaf-splits (omega (arith, size .is, ready-size)))
 
     pub full-size : length (leafMarks p b) ≡ mostLeaf
-    full-size = omega (arith, ready-size, ready .block .fits)
+    full-size = omega (arith, size .is, ready-size, ready .block .fits)
 
   pub place-last : i ≤ mostLeaf + 1
   place-last = omega (arith, ready .last, ready-size, ready .block .fits)
 
   -- no split: one block is written, and the map is as before
-  pub leaf-kept : (many : ℕ) → many ≡ length (leafMarks p b) → many < mostLeaf → (q : List ℕ) → MarkInserted b i c p q
+  pub leaf-room : (many : ℕ) → Is (entries p b) many → many < mostLeaf → length (leafMarks p b) < mostLeaf
+  leaf-room many size room = omega (arith, size .is, ready-size)
+
+  pub leaf-kept : (many : ℕ) → Is (entries p b) many → many < mostLeaf → (q : List ℕ) → MarkInserted b i c p q
       → Inserted 0 b i c holder (record { split = false; new = 0 }) p q m m
   unfolding insertNode
   leaf-kept many size room q put =
       record {
         shapes =
             ap (λ (x : List ℕ). x ∷ []) (put .marks)
-            ∙ sym (chop-fits (most oneToAByte zero) (insert c i (leafMarks p b)) (omega (arith, length-insert c i (leafMarks p b))));
+            ∙ sym (chop-fits (most oneToAByte zero) (insert c i (leafMarks p b)) (omega (arith, leaf-room many size room, length-insert c i (leafMarks p b))));
         sound = (
           (
-            block-written (ready .block) (put .only .long) (put .form) (put .many) (omega arith) (omega (arith, ready-size)),
+            block-written (ready .block) (put .only .long) (put .form) (put .many) (omega arith) (omega (arith, size .is)),
             rw (put .marks) (allBelow-insert mostAlphabet c i (leafMarks p b) (ready .symbol) (ready .below)),
           ),
           tt,
@@ -84,7 +88,7 @@ module _ (b i c holder : ℕ) (p m : List ℕ) (ready : InsertReady p m 0 b i c 
         blocks = λ x. refl;
         only = only-wider _ (λ x e. rw e (omega (arith, leaf-path p i b))) (put .only);
         entered = entered-none holder m;
-        took = omega (arith, leaf-whole (omega arith));
+        took = omega (arith, leaf-whole (leaf-room many size room));
       }
 
   module _ (new : ℕ) (n : List ℕ) (taken : BlockTaken holder new m n) where
@@ -96,7 +100,7 @@ module _ (b i c holder : ℕ) (p m : List ℕ) (ready : InsertReady p m 0 b i c 
     new-other e = omega (arith, ready .agrees new, taken-free holder new m n (ready .named) taken, isMark-same new b e)
 
     -- split: the leaf and the block taken are written
-    pub leaf-parted : (many : ℕ) → many ≡ length (leafMarks p b) → mostLeaf ≤ many → (q : List ℕ) → LeafSplit b new i c p q
+    pub leaf-parted : (many : ℕ) → Is (entries p b) many → mostLeaf ≤ many → (q : List ℕ) → LeafSplit b new i c p q
         → Inserted 0 b i c holder (record { split = true; new = new }) p q m n
     unfolding count
     leaf-parted many size full q split =
@@ -133,5 +137,5 @@ module _ (b i c holder : ℕ) (p m : List ℕ) (ready : InsertReady p m 0 b i c 
               (λ e. rw e (omega (arith, taken-free holder new m n named taken, taken-blocks holder new m n named taken new, isMark-same new new refl))) w)
               (split .only);
           entered = taken-entered holder new m n named taken;
-          took = omega (arith, taken-one holder new m n named taken, leaf-splits (omega arith));
+          took = omega (arith, taken-one holder new m n named taken, leaf-splits (omega (arith, size .is, ready-size)));
         }

@@ -11,7 +11,7 @@ use crate::Grown;
 use geometry::Record;
 use pool_blocks::leaf::cut_leaf;
 use pool_blocks::leaf::insert_mark;
-use pool_blocks::leaf::size;
+use pool_entries::entry_count;
 use pool_holders::take_block;
 
 // Puts c in at place i of the leaf b.
@@ -26,7 +26,7 @@ pub fn insert_in_leaf(
     requires { ⌜ InsertReady (now pool) (now map) 0 b i c holder ⌝ }
     ensures { λ r. ⌜ Inserted 0 b i c holder r (now (pool .entry)) (now (pool .exit)) (now (map .entry)) (now (map .exit)) ⌝ }
 {
-    if size(pool, b) < Record::MOST_LEAF {
+    if entry_count(pool, b) < Record::MOST_LEAF {
         insert_mark(pool, b, i, c);
         return Grown {
             split: false,

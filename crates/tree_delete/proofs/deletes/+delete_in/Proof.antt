@@ -13,8 +13,8 @@ use Rattle.tree_delete.proofs.deletes.delete_in.Reads as delete-in
 use Rattle.tree_delete.proofs.deletes.delete_in.Kinds as delete-in-kinds
 use Rattle.tree_delete.proofs.deletes.+delete_in.Lts-delete_in as delete-in-lts
 use Rattle.pool_blocks.proofs.leaf.delete_mark.Reads as delete-mark-reads
-use Rattle.pool_entries.proofs.find_child.Reads as find-child-reads
 use Rattle.pool_entries.proofs.link.Reads as link-reads
+use Rattle.pool_entries.proofs.seat_by.Reads as seat-by-reads
 use Rattle.tree_delete.proofs.mends.settle.Reads as settle-reads
 use Rattle.tree_delete.proofs.deletes.+delete_in.{statement}
 use Rattle.tree_delete.proofs.deletes.+delete_in.Tie.{close}
@@ -36,8 +36,8 @@ abbrev told : ℕ → delete-in-lts.Claims
 told t = (
   delete-mark-reads.Asked,
   delete-mark-reads.Learnt,
-  find-child-reads.Asked,
-  find-child-reads.Learnt,
+  seat-by-reads.Asked,
+  seat-by-reads.Learnt,
   link-reads.Asked,
   link-reads.Learnt,
   delete-in-below t,
@@ -53,7 +53,7 @@ pub +delete-in-spec : {M : Type 1} → statement M
     (λ c κs. (search leaf-at, search needs, search leaf-last))  -- delete-mark-requires
     (λ c. search needs)
     (λ c. search leaf-deleted)  -- returns
-    (λ c κs. (search needs, search branch-least, search branch-most))  -- find-child-requires
+    (λ c κs. ((search needs, search needs), (search branch-least, search branch-most)))  -- seat-by-requires
     (λ c κs. (search needs, search (seated-low, branch-most)))  -- link-requires
     (λ c. search pos-of-ne-zero)  -- sub-delete-in
     (λ c. search seated-before)  -- sub-delete-in-2

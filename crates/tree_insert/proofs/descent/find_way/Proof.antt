@@ -24,7 +24,7 @@ find-way-spec =
     (λ c. search needs)
     (λ c. search needs)
     (λ c. search found-start)  -- loop-holds
-    (λ c κs. found-choice _ _ _ _ _ _ _ _ _ _ (c .before .loop .inv) (c .loop-test .taken))  -- find-child-requires
+    (λ c κs. found-choice _ _ _ _ _ _ _ _ _ _ (c .before .loop .inv) (c .loop-test .taken))  -- seat-by-requires
     (λ c κs. (search found-inside, search found-low))  -- link-requires
     (λ c. search seated-before)  -- sub-place
     (λ c. search needs)
