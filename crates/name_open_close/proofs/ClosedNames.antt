@@ -20,13 +20,16 @@ use Rattle.pool.proofs.SoundNames.{closed-blocks}
 use Rattle.pool.proofs.Changes.{only-none}
 use Rattle.pool.proofs.Meaning.{closed-meaning}
 use Rattle.pool.proofs.Written.{closed-put}
-use Rattle.pool_holders.specs.Maps.{isFree, HolderFreed}
+use Rattle.pool_holders.specs.Maps.{holderOf, isFree, HolderFreed}
 use Rattle.name_open_close.specs.Updates.{CloseReady, Updated}
 use Rattle.name_open_close.proofs.ExactMaps.{Turns, zero-isFree, held-isFree, same-free, held-has-byte, marked-held, block-byte, name-agrees}
 use Rattle.name_open_close.proofs.NameChanges.{others-untouched, header-kept, updated}
 
 module _ (p p′ m n : List ℕ) (name : ℕ) (ready : CloseReady p m name) (put : Record) (is : put ≡ closedRecord) (written : PutRecord name put p p′)
-    (freed : HolderFreed (name + 1) m n) where
+    (holder : ℕ) (held : holder ≡ holderOf name) (gone : HolderFreed holder m n) where
+  freed : HolderFreed (holderOf name) m n
+  freed = rw held at gone
+
   closed-now : ClosedName p′ name
   closed-now = closed-put name p p′ (rw is at written)
 
@@ -50,10 +53,10 @@ module _ (p p′ m n : List ℕ) (name : ℕ) (ready : CloseReady p m name) (put
       ⊎-elim (λ (gone : count x (blocksOf p name) ≡ 0). omega arith)
       (λ (here : 0 < count x (blocksOf p name)). absurd (w .0 (block-byte p m (ready .within .map) (ready .within .sound) x name low here)))
       (eq-zero-or-pos (count x (blocksOf p name))))
-      (isMark-cases (name + 1) (getD m x 0))
+      (isMark-cases (holderOf name) (getD m x 0))
 
-  turns : (x : ℕ) → Turns (name + 1) (getD m x 0) (getD n x 0)
-  turns x = ⊎-elim (λ w. inr (inr (freed .freed x (w .0)))) (λ w. inl (freed .others x (w .0))) (isMark-cases (name + 1) (getD m x 0))
+  turns : (x : ℕ) → Turns (holderOf name) (getD m x 0) (getD n x 0)
+  turns x = ⊎-elim (λ w. inr (inr (freed .freed x (w .0)))) (λ w. inl (freed .others x (w .0))) (isMark-cases (holderOf name) (getD m x 0))
 
   pub closed-updated : Updated name closed p p′ n
   closed-updated =

@@ -24,7 +24,7 @@ use Rattle.pool.proofs.SoundNames.{closed-blocks, open-blocks, unpromised-free}
 use Rattle.pool.proofs.Changes.{directory-blocks, word-in-block}
 use Rattle.pool.proofs.Meaning.{open-meaning}
 use Rattle.pool_blocks.specs.Moves.{Emptied}
-use Rattle.pool_holders.specs.Maps.{isFree, freeIn, BlockTaken}
+use Rattle.pool_holders.specs.Maps.{holderOf, isFree, freeIn, BlockTaken}
 use Rattle.pool_holders.proofs.Takes.{taken-long, taken-blocks, taken-entered}
 use Rattle.name_open_close.specs.Updates.{OpenReady, Updated}
 use Rattle.name_open_close.proofs.ExactMaps.{zeros-are-free, zero-count, entered-turns}
@@ -35,8 +35,11 @@ pub block-there : (p m : List ℕ) (name alphabet q : ℕ) → OpenReady p m nam
 block-there p m name alphabet q ready =
     omega (arith, ready .some, ready .room, unpromised-free p (ready .within .sound), zeros-are-free p m (ready .within .map))
 
-module _ (p q r m n : List ℕ) (name alphabet promise root : ℕ) (ready : OpenReady p m name alphabet promise) (taken : BlockTaken (name + 1) root m n)
+module _ (p q r m n : List ℕ) (name alphabet promise root holder : ℕ) (ready : OpenReady p m name alphabet promise) (held : holder ≡ holderOf name) (took : BlockTaken holder root m n)
     (empty : Emptied root p q) (put : Record) (is : put ≡ openedRecord alphabet promise root) (written : PutRecord name put q r) where
+  taken : BlockTaken (holderOf name) root m n
+  taken = rw held at took
+
   low : name < names
   low = ready .within .low
 
@@ -87,7 +90,7 @@ module _ (p q r m n : List ℕ) (name alphabet promise root : ℕ) (ready : Open
         ap (count x) blocks-now,
         count-one x root,
         ap (count x) (closed-blocks p name (ready .closed)),
-        taken-blocks (name + 1) root m n (omega arith) taken x,
+        taken-blocks (holderOf name) root m n (omega arith) taken x,
       )
 
   -- nobody held it
@@ -100,8 +103,8 @@ module _ (p q r m n : List ℕ) (name alphabet promise root : ℕ) (ready : Open
   pub opened-updated : Updated name (opened alphabet promise emptyT) p r n
   opened-updated =
       updated p r m n name low (ready .within .sound) (ready .within .map) block-entered others-now long
-      (taken-long (name + 1) root m n (omega arith) taken)
-      (entered-turns (name + 1) m n (taken-entered (name + 1) root m n (omega arith) taken))
+      (taken-long (holderOf name) root m n (omega arith) taken)
+      (entered-turns (holderOf name) m n (taken-entered (holderOf name) root m n (omega arith) taken))
       (header-kept p q r name low (λ b. b ≡ root) unheld (empty .only) put written)
       (inr opened-now) (rw record-now (omega (arith, ready .room))) (opened alphabet promise emptyT)
       (open-meaning r name opened-now

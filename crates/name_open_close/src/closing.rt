@@ -4,6 +4,7 @@ ghost use Rattle.pool_holders.specs.Maps.{HolderFreed};
 ghost use Rattle.name_open_close.specs.Updates.{CloseReady, Updated};
 use geometry::Record;
 use pool::write_record;
+use pool_holders::holder_of;
 
 // Closes a name.
 pub fn close(pool: &mut [u8], name: usize, map: &mut [u8])
@@ -11,7 +12,7 @@ pub fn close(pool: &mut [u8], name: usize, map: &mut [u8])
     ensures { λ _. ⌜ Updated name closed (now (pool .entry)) (now (pool .exit)) (now (map .exit)) ⌝ }
 {
     write_record(pool, name, Record::closed());
-    free_holder(map, (name + 1) as u8);
+    free_holder(map, holder_of(name));
 }
 
 // Frees every block of a holder.

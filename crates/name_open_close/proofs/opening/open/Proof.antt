@@ -8,8 +8,7 @@ pub open-spec : {M : Type 1} → statement M
 open-spec =
     tie.close
     (tie.spec
-    (λ c. search needs)
-    (λ c. search needs)
+    (λ c κs. search needs)
     (λ c κs. search block-there)  -- take-block-requires
     (λ c κs. search needs)
     (λ c. search needs)
