@@ -1,18 +1,14 @@
 -- How many marks c an open name has: what a root that is a leaf counts up to its last place, and what the entries of any other root say.
 use mathlib.Core.Path.{_≡_, refl, ap, _∙_}
 use mathlib.Core.List.{List}
-use Prim.Native.Nat.{ℕ, zero, suc, _+_, _-_, _*_, _^_, _≤_, _<_}
+use Prim.Native.Nat.{ℕ, zero, suc, _≤_, _<_}
 use native.Mathlib.Omega.{arith}
 use lib.ListN.{length}
-use Rattle.lists.proofs.Sums.{sum-more}
-use Rattle.lists.specs.Sums.{sumBelow}
-use Rattle.pool_entries.proofs.Summaries.{sum-counts}
-use Rattle.pool_entries.specs.Summaries.{Is, wordsAt}
-use Rattle.geometry.specs.Layout.{leastBranch, mostBranch, entryCountsAt, wordSize}
+use Rattle.geometry.specs.Layout.{leastBranch, mostBranch}
 use Rattle.geometry.specs.Limits.{mostAlphabet}
 use Rattle.geometry.specs.declared.Record.{Record}
 use Rattle.pool.proofs.Summaries.{own-count}
-use Rattle.pool.specs.Blocks.{entries, countBelow}
+use Rattle.pool.specs.Blocks.{entries}
 use Rattle.pool.specs.Bytes.{shares}
 use Rattle.pool.specs.Sound.{SoundBlock, SoundBelow}
 use Rattle.pool.specs.Trees.{shapeAt, ownCount}
@@ -27,17 +23,6 @@ use Rattle.tree_query.specs.Records.{OfOpenName, treeBy}
 use Rattle.tree_query.proofs.Records.{record-length}
 
 -- A branch.
-module _ (p : List ℕ) (b c many before last : ℕ) (size : Is (entries p b) many) (least : leastBranch ≤ entries p b)
-    (added : before ≡ sumBelow (many - 1) (wordsAt p b (entryCountsAt + wordSize * c))) (told : Is (countBelow p b (many - 1) c) last) where
-  pub branch-adds : before + last ≡ ownCount p 1 b c
-  branch-adds =
-      let e : many - 1 + 1 ≡ entries p b = omega (arith, size .is) in
-      sum-more (λ k. countBelow p b k c) (many - 1) before last (added ∙ sum-counts p b c (many - 1)) (told .is)
-      ∙ ap (λ (n : ℕ). sumBelow n (λ k. countBelow p b k c)) e
-
-  pub branch-fits : ownCount p 1 b c < wordLimit → before + last < 2 ^ 64
-  branch-fits small = omega (arith, branch-adds)
-
 branch-size : (p : List ℕ) (h b : ℕ) → (h ≡ 0 → ⊥) → SoundBlock p (rootLeast h) h b → (leastBranch ≤ entries p b) × (entries p b ≤ mostBranch)
 branch-size p zero b branch block = absurd (branch refl)
 branch-size p (suc h) b branch block = (block .enough, block .fits)

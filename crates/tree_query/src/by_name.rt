@@ -17,7 +17,6 @@ use crate::descent::access_in;
 use crate::descent::rank_in;
 use crate::descent::select_in;
 use geometry::Record;
-use pool_entries::count_below;
 use pool_entries::entry_count;
 use pool_entries::words_before;
 
@@ -70,8 +69,6 @@ fn count_in_branch(pool: &[u8], b: usize, c: usize) -> usize
         × (ownCount (now pool) 1 b c < wordLimit) ⌝ }
     ensures { λ r. ⌜ r ≡ ownCount (now (pool .entry)) 1 b c ⌝ }
 {
-    let last = entry_count(pool, b) - 1;
     let offset = Record::ENTRY_COUNTS_AT + Record::WORD_SIZE * c;
-    let before = words_before(pool, b, offset, last);
-    before + count_below(pool, b, last, c)
+    words_before(pool, b, offset, entry_count(pool, b))
 }

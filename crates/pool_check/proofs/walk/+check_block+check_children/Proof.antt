@@ -80,7 +80,7 @@ check-children-repeats-requires : (t : ℕ) → check-children-lts.Need-repeats-
 check-children-repeats-requires t c κs =
     let checked = c .before .before .check-block in
     let child = walk-found _ (not-false (checked .result) (c .before .if2 .left)) (checked .ensures) .0 in
-    (search needs, ((search (walk-found, not-false), search needs), (search (not-false, needs), search (walk-found, not-false))))
+    (search needs, ((child .inside, search needs), (search (not-false, needs), child .fits)))
 
 pub +check-block+check-children-spec : {M : Type 1} → statement M
 +check-block+check-children-spec = close μ-check-block μ-check-children (λ t. check-block-lts.spec (block-told t)
