@@ -66,3 +66,7 @@ seated-left m many i r seated one = go (r .k) (seated .sum) (seated .past)
 -- the child is one of the most that there are
 pub seated-low : (m : ℕ → ℕ) (many i : ℕ) (r : Seat) → Seated m many i r → many ≤ mostBranch → r .k < mostBranch
 seated-low m many i r seated most = omega (arith, seated .inside)
+
+-- and as many at most stand before it
+pub seated-few : (m : ℕ → ℕ) (many i : ℕ) (r : Seat) → Seated m many i r → many ≤ mostBranch → r .k ≤ mostBranch
+seated-few m many i r seated most = omega (arith, seated .inside)
