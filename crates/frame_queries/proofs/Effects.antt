@@ -88,8 +88,8 @@ module _ (p : List â„•) (c : Command) (sound : Sound p) (status : statusIn p c â
         asked = open-record p (c .name) found opened read;
         long = rw read (opened .length);
         most = rw read (opened .entry .alphabetMost);
-        high = rw read (opened .height);
-        room = rw read (opened .room);
+        high = rw read (opened .entry .height);
+        room = rw read (opened .entry .room);
         few = rw read (marks-few p (c .name) sound low opened);
         part = rw read (opened-part p (c .name) sound low opened);
       }
