@@ -39,22 +39,24 @@ module _ (p commands room map : List ℕ) (status : ℕ) (judged : Judged p comm
     pub directory-inside : directorySize ≤ length p
     directory-inside = omega (arith, passed .allowed .shortest)
 
-    pub shares-inside : shares p ≤ length map
-    shares-inside = omega (arith, passed .allowed .longest, judged .long done)
+    -- the part of the map that so many shares need
+    module _ (many : ℕ) (all : many ≡ shares p) where
+      pub shares-inside : many ≤ length map
+      shares-inside = omega (arith, passed .allowed .longest, judged .long done)
 
-    pub part-long : shares p ≡ length (take (shares p) map)
-    part-long = omega (arith, length-take (shares p) map, shares-inside)
+      pub part-long : many ≡ length (take many map)
+      part-long = omega (arith, length-take many map, shares-inside)
 
     -- the number of frames is small
     pub count-fits : length commands / frameSize < 2 ^ 32
     count-fits = omega (arith, passed .frames .most)
 
-    pub frames-ready : FramesReady p (take (shares p) map) commands room
-    frames-ready =
+    pub frames-ready : (many : ℕ) → many ≡ shares p → FramesReady p (take many map) commands room
+    frames-ready many all =
         record {
           ready = record {
             sound = passed .sound;
-            map = map-cut p map (passed .allowed) (judged .long done) (judged .holders done);
+            map = rw all (map-cut p map (passed .allowed) (judged .long done) (judged .holders done));
           };
           allowed = passed .frames;
           fits = passed .fits;

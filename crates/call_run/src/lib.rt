@@ -7,6 +7,7 @@ use frame_execute::execute;
 use geometry::Record;
 use pool::clear_bytes;
 use pool::put_byte;
+use pool::shares_of;
 use pool_check::length_allowed;
 use protocol::Command;
 
@@ -32,7 +33,7 @@ pub fn run(pool: &mut [u8], commands: &[u8], answers: &mut [u8]) -> Outcome
     if status != Outcome::DONE {
         return Outcome { status, count: 0 };
     }
-    let shares = (pool.len() - Record::DIRECTORY_SIZE) / Record::BLOCK_SIZE;
+    let shares = shares_of(pool);
     run_frames(pool, commands, answers, &mut map[..shares]);
     Outcome {
         status: Outcome::DONE,

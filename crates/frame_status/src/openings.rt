@@ -5,6 +5,7 @@ ghost use Rattle.pool.specs.Sound.{Sound};
 ghost use Rattle.protocol.specs.Commands.{openCode};
 ghost use Rattle.frame_status.specs.Statuses.{statusIn, Naming};
 use geometry::Record;
+use pool::shares_of;
 use pool_check::promised;
 use protocol::Answer;
 use protocol::Command;
@@ -37,6 +38,5 @@ pub fn unpromised(pool: &[u8]) -> usize
     requires { ⌜ Sound (now pool) ⌝ }
     ensures { λ r. ⌜ r ≡ unpromisedShares (now (pool .entry)) ⌝ }
 {
-    let shares = (pool.len() - Record::DIRECTORY_SIZE) / Record::BLOCK_SIZE;
-    shares - promised(pool)
+    shares_of(pool) - promised(pool)
 }

@@ -20,7 +20,7 @@ use Rattle.pool.specs.Records.{PutRecord}
 use Rattle.pool.specs.Trees.{blocksAt, pathAt}
 use Rattle.pool.specs.Words.{wordLimit}
 use Rattle.pool.proofs.Changes.{only-wider}
-use Rattle.pool_holders.specs.Maps.{isFree, Freed}
+use Rattle.pool_holders.specs.Maps.{holderOf, isFree, Freed}
 use Rattle.tree_insert.specs.Trees.{TreeReady, TreeInserted}
 use Rattle.tree_insert.specs.declared.tree.Rooted.{Rooted}
 use Rattle.name_open_close.proofs.ExactMaps.{Turns, entered-turns}
@@ -34,7 +34,7 @@ use Rattle.name_edits.proofs.TreesReady.{promise-most, insert-ready, de
 
 -- An insert.
 module _ (p q m n : List ℕ) (name i c : ℕ) (at : InsertAt p m name i c) (g : Rooted)
-    (ins : TreeInserted (recordOf p name .height) (recordOf p name .root) i c (name + 1) g p q m n) where
+    (ins : TreeInserted (recordOf p name .height) (recordOf p name .root) i c (holderOf name) g p q m n) where
   -- the blocks of the path are the tree's
   path-own : (x : ℕ) → 1 ≤ count x (pathAt p (recordOf p name .height) i (recordOf p name .root)) + (isFree m x - isFree n x)
       → 1 ≤ count x (blocksBelow p name) + isFree m x
@@ -56,7 +56,7 @@ module _ (p q m n : List ℕ) (name i c : ℕ) (at : InsertAt p m name i c) (g :
         blocks = ins .blocks;
         only = only-wider _ path-own (ins .only);
         long = ins .entered .long;
-        each = entered-turns (name + 1) m n (ins .entered);
+        each = entered-turns (holderOf name) m n (ins .entered);
       }
 
   insert-fits : MarksRecorded (recordOf p name) (insertT oneToAByte c i (treeOf p name)) (recordOf p name .length + 1)
@@ -99,16 +99,16 @@ module _ (p q m n : List ℕ) (name i : ℕ) (at : DeleteAt p m name i) (g : Rem
 
 -- The same as the code has it: `old` is the record that was read.
 module _ (p m : List ℕ) (name : ℕ) (old : Record) (is : old ≡ recordOf p name) where
-  module _ (i c : ℕ) (at : InsertAt p m name i c) where
-    pub insert-in-ready : TreeReady p m (old .height) (old .root) i c (name + 1)
-    insert-in-ready = rw is (insert-ready p m name i c at)
+  module _ (i c : ℕ) (at : InsertAt p m name i c) (holder : ℕ) (own : holder ≡ holderOf name) where
+    pub insert-in-ready : TreeReady p m (old .height) (old .root) i c holder
+    insert-in-ready = rw (is, own) (insert-ready p m name i c at)
 
     pub insert-length : old .length + 1 < wordLimit
     insert-length = rw is (omega (arith, at .room, promise-most p name (at .within .low) (at .within .sound)))
 
-    module _ (g : Rooted) (q n : List ℕ) (ins : TreeInserted (old .height) (old .root) i c (name + 1) g p q m n) where
-      inserted-in : TreeInserted (recordOf p name .height) (recordOf p name .root) i c (name + 1) g p q m n
-      inserted-in = rw is at ins
+    module _ (g : Rooted) (q n : List ℕ) (ins : TreeInserted (old .height) (old .root) i c holder g p q m n) where
+      inserted-in : TreeInserted (recordOf p name .height) (recordOf p name .root) i c (holderOf name) g p q m n
+      inserted-in = rw (is, own) at ins
 
       pub insert-storable : Storable q name (g .level) (g .root)
       insert-storable =

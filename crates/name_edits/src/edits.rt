@@ -6,10 +6,11 @@ ghost use Rattle.name_edits.specs.Edits.{InsertAt, DeleteAt, InsertedAt,
 ghost use Rattle.name_edits.specs.Trees.{Storable, withTree};
 use geometry::Record;
 use pool::write_record;
+use pool_holders::holder_of;
 use tree_delete::delete_in_tree;
 use tree_insert::insert_in_tree;
 
-// Puts c in at place i of a name, whose record was read. Blocks that its tree takes are entered in the map as name + 1.
+// Puts c in at place i of a name, whose record was read. Blocks that its tree takes are entered in the map as the name's.
 pub fn insert(pool: &mut [u8], name: usize, old: Record, i: usize, c: u8, map: &mut [u8])
     requires { ⌜ InsertAt (now pool) (now map) name i c × (old ≡ recordOf (now pool) name) ⌝ }
     ensures { λ _. ⌜ InsertedAt name i c (now (pool .entry)) (now (pool .exit)) (now (map .exit)) ⌝ }
@@ -21,7 +22,7 @@ pub fn insert(pool: &mut [u8], name: usize, old: Record, i: usize, c: u8, map: &
         i,
         c,
         map,
-        name as u8 + 1,
+        holder_of(name),
     );
     put_tree(pool, name, old, rooted.level, rooted.root, old.length + 1);
 }

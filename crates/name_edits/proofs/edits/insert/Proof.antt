@@ -10,11 +10,10 @@ insert-spec =
     (tie.spec
     (λ c. search needs)
     (λ c. search needs)
-    (λ c. search needs)
-    (λ c. search needs)
+    (λ c κs. search needs)
     (λ c κs. search insert-in-ready)  -- insert-in-tree-requires
     (λ c. record { fits = search insert-length })  -- add-put-tree
     (λ c κs. search insert-storable)  -- put-tree-requires
     (λ c. search needs)
     (λ c. search needs)
-    (λ c. search inserted-at))
+    (λ c. search inserted-at))  -- returns
