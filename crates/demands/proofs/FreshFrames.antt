@@ -2,16 +2,15 @@
 -- the formatted pool with three bytes set in the first record: its kind, its alphabet and its shares.
 use mathlib.Core.Path.{_≡_, refl, sym, ap, _∙_}
 use mathlib.Core.List.{List, [], _∷_}
-use mathlib.Core.Logic.{⊎-elim, inr}
-use Prim.Native.Nat.{ℕ, zero, suc, _+_, _-_, _≤_, _<_}
-use native.Mathlib.Nat.{eq-zero-or-pos}
+use mathlib.Core.Logic.{inr}
+use Prim.Native.Nat.{ℕ, zero, _+_, _-_, _<_}
 use native.Mathlib.Omega.{arith}
-use lib.ListN.{getD, replicate, set, length-set, length-replicate, getD-replicate, List·getD-eq-default}
+use lib.ListN.{getD, replicate, set, length-set, length-replicate, getD-replicate}
 use lib.Seq.{getD-set-other}
 use Rattle.geometry.specs.Layout.{kindAt, alphabetAt, qAt, kindMarks}
 use Rattle.geometry.specs.Records.{openedRecord}
 use Rattle.lists.specs.Froms.{from}
-use Rattle.pool.proofs.Formatted.{length-formatted, formatted-sound}
+use Rattle.pool.proofs.Formatted.{length-formatted, rest-zero, all-closed, formatted-sound}
 use Rattle.call_run.specs.Runs.{commandsIn, eights}
 use Rattle.frame_execute.specs.Steps.{Step, Ready}
 use Rattle.name_open_close.proofs.OpenedNames.{opened-updated}
@@ -21,7 +20,7 @@ use Rattle.pool.specs.Bytes.{byte, word, shares, recordAt}
 use Rattle.pool.specs.Formatted.{formatted}
 use Rattle.pool.specs.Names.{recordOf}
 use Rattle.pool.specs.Records.{PutRecord}
-use Rattle.pool.specs.Sound.{LengthAllowed, ClosedName, Sound}
+use Rattle.pool.specs.Sound.{LengthAllowed, Sound}
 use Rattle.pool_blocks.specs.Moves.{Emptied}
 use Rattle.protocol.specs.Frames.{commandOf, bytesOfAnswer}
 use Rattle.protocol.specs.State.{opened}
@@ -63,16 +62,6 @@ one-frame-session x0 x1 x2 x3 x4 x5 x6 x7 p a q sound step =
 
 -- A formatted pool and its map, in which every block is free.
 module _ (bytes : ℕ) (allowed : LengthAllowed bytes) where
-  rest-zero : (j : ℕ) → 1 ≤ j → byte (formatted bytes) j ≡ 0
-  unfolding formatted
-  rest-zero zero one = absurd (omega arith)
-  rest-zero (suc j) one =
-      ⊎-elim (λ (e : bytes - 1 - j ≡ 0). List·getD-eq-default (replicate (bytes - 1) 0) 0 (omega (arith, length-replicate {A = ℕ} (bytes - 1) 0)))
-      (λ (l : 0 < bytes - 1 - j). getD-replicate (bytes - 1) j 0 0 (omega arith)) (eq-zero-or-pos (bytes - 1 - j))
-
-  all-closed : (name : ℕ) → ClosedName (formatted bytes) name
-  all-closed name j l = rest-zero (recordAt name + j) (omega arith)
-
   pub is-fresh : Fresh (formatted bytes)
   is-fresh =
       record {
@@ -102,7 +91,7 @@ module _ (bytes : ℕ) (allowed : LengthAllowed bytes) where
               holders =
                   record {
                     free = λ b low _. free-at b low;
-                    held = λ b name low below some. absurd (omega (arith, some, ap (count b) (closed-blocks (formatted bytes) name (all-closed name))));
+                    held = λ b name low below some. absurd (omega (arith, some, ap (count b) (closed-blocks (formatted bytes) name (all-closed bytes allowed name))));
                   };
             };
       }
@@ -151,5 +140,5 @@ first-empty =
 pub two-opened : OpenReady two (freeMap 768 two-allowed) 0 4 2 → Updated 0 (opened 4 2 emptyT) two twoOpened (set (freeMap 768 two-allowed) 0 1)
 unfolding formatted
 two-opened ready =
-    opened-updated two two twoOpened (freeMap 768 two-allowed) (set (freeMap 768 two-allowed) 0 1) 0 4 2 0 ready
+    opened-updated two two twoOpened (freeMap 768 two-allowed) (set (freeMap 768 two-allowed) 0 1) 0 4 2 0 1 ready refl
     (record { inside = omega arith; free = refl; entered = refl }) first-empty (openedRecord 4 2 0) refl first-put

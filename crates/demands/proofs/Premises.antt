@@ -56,7 +56,7 @@ status-in-two = ap (λ s. statusOf trees (unpromised s) (partOf s 0) (commandOf 
 
 refused-in-one : Step (formatted 640) (commandOf opening) (refuses 0 12) (formatted 640)
 unfolding commandOf
-refused-in-one = refused-steps (formatted 640) (freeMap 640 one-allowed) (commandOf opening) (fresh-ready 640 one-allowed) 12 (sym status-in-one) (λ e. omega arith) .step
+refused-in-one = refused-steps (formatted 640) (freeMap 640 one-allowed) (commandOf opening) (fresh-ready 640 one-allowed) 12 (refuses 0 12) (sym status-in-one) (λ e. omega arith) refl .step
 
 opened-in-two : Step two (commandOf opening) (gives 0 0) twoOpened
 unfolding commandOf

@@ -30,14 +30,14 @@ module _ (bytes : ℕ) (allowed : LengthAllowed bytes) where
   unfolding formatted
   length-formatted = omega (arith, length-replicate {A = ℕ} (bytes - 1) 0, allowed)
 
-  rest-zero : (j : ℕ) → 1 ≤ j → byte (formatted bytes) j ≡ 0
+  pub rest-zero : (j : ℕ) → 1 ≤ j → byte (formatted bytes) j ≡ 0
   unfolding formatted
   rest-zero zero one = absurd (omega arith)
   rest-zero (suc j) one =
       ⊎-elim (λ (e : bytes - 1 - j ≡ 0). List·getD-eq-default (replicate (bytes - 1) 0) 0 (omega (arith, length-replicate {A = ℕ} (bytes - 1) 0)))
       (λ (l : 0 < bytes - 1 - j). getD-replicate (bytes - 1) j 0 0 (omega arith)) (eq-zero-or-pos (bytes - 1 - j))
 
-  all-closed : (name : ℕ) → ClosedName (formatted bytes) name
+  pub all-closed : (name : ℕ) → ClosedName (formatted bytes) name
   all-closed name j l = rest-zero (recordAt name + j) (omega arith)
 
   pub formatted-sound : Sound (formatted bytes)
