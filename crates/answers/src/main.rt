@@ -1,5 +1,7 @@
 // The first program: reads frames from standard input, one as hexadecimal on each line, and writes an answer line for each.
 // The crate `program_sessions` has the work, with its proofs; here bytes are only read and written.
+#![tactic(auto)]
+
 use geometry::Record;
 use libc::{STDERR_FILENO, STDIN_FILENO, STDOUT_FILENO};
 use text_hex::LINE_SIZE;

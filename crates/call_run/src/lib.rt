@@ -1,4 +1,6 @@
 // The index: a pool formatted, and command frames run on it.
+#![tactic(auto)]
+
 ghost use Rattle.call_run.specs.Calls.{Formats, Ran};
 ghost use Rattle.call_run.specs.Frames.{FramesReady, FramesRun};
 

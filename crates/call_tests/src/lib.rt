@@ -1,4 +1,6 @@
 // A call's outcome, and the tests that it must pass, in their order.
+#![tactic(auto)]
+
 ghost use Rattle.pool_check.specs.Says.{Says};
 ghost use Rattle.call_tests.specs.Tests.{CommandsAllowed, Judged};
 

@@ -1,5 +1,7 @@
 // Forfochry, the proved mark index: its three calls for programs in Rattle, and the same for programs in C and Rust, whose interface is
 // include/forfochry.h.
+#![tactic(auto)]
+
 ghost use Rattle.std.specs.Prelude.{◌≡◌};
 ghost use Rattle.forfochry.specs.Numbers.{outcome_of};
 ghost use Rattle.text_fixed_form.specs.Mark.{mark_of};

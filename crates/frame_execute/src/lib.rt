@@ -1,4 +1,6 @@
 // One frame executed on a sound pool: its status by the tests of RULES, Statuses, and where none applies, what the command asks.
+#![tactic(auto)]
+
 ghost use Rattle.std.specs.Prelude.{◌≢◌};
 ghost use Rattle.protocol.specs.Commands.{unpromised_code};
 ghost use Rattle.frame_status.specs.Statuses.{WellFormed};

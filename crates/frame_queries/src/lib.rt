@@ -1,4 +1,6 @@
 // The commands that look at a pool and change nothing, where no test refused them.
+#![tactic(auto)]
+
 ghost use Rattle.std.specs.Prelude.{◌≢◌, ◌≡◌, ◌≤◌};
 ghost use Rattle.pool.specs.Sound.{Sound};
 ghost use Rattle.protocol.specs.Commands.{access_code, rank_code, select_code, unpromised_code};

@@ -1,4 +1,6 @@
 // The status of a command on a sound pool: the tests of RULES, Statuses in their order, and 0 where none applies.
+#![tactic(auto)]
+
 ghost use Rattle.std.specs.Prelude.{◌≡◌};
 ghost use Rattle.frame_status.specs.Statuses.{status_in, Naming};
 

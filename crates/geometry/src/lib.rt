@@ -1,5 +1,7 @@
 // The sizes and limits of the index, each named once, as constants of the directory's record.
 // `specs/` has the same numbers by the same names; `Record::limits` and `Record::layout` show them equal.
+#![tactic(auto)]
+
 ghost use Rattle.std.specs.Prelude.{◌≡◌};
 ghost use Rattle.geometry.specs.Records.{closed_record, opened_record};
 

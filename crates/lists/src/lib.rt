@@ -1,1 +1,2 @@
 // Lists and sums over them: definitions and laws, and no code.
+#![tactic(auto)]

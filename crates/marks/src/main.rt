@@ -1,5 +1,7 @@
 // The second program: reads a Fortran file from standard input and writes the insert frame of each line's mark, one a line.
 // The crate `program_insertions` has the work, with its proofs; here bytes are only read and written.
+#![tactic(auto)]
+
 ghost use Rattle.std.specs.Prelude.{◌≤◌, length};
 ghost use Rattle.text_hex.specs.Lines.{line_size};
 

@@ -1,4 +1,6 @@
 // A name opened, and a name closed.
+#![tactic(auto)]
+
 mod closing;
 mod opening;
 

@@ -1,4 +1,6 @@
 // The pool's bytes.
+#![tactic(auto)]
+
 mod bytes;
 mod places;
 mod records;

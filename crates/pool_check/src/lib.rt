@@ -1,4 +1,6 @@
 // The check that every call makes: whether any bytes are a sound pool, and which name holds each block.
+#![tactic(auto)]
+
 ghost use Rattle.pool.specs.Sound.{LengthAllowed};
 ghost use Rattle.pool_check.specs.Parts.{Checked};
 ghost use Rattle.pool_check.specs.Says.{Says};

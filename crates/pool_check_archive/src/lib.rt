@@ -1,4 +1,6 @@
 // The check for programs in C or Rust, which the benchmark links.
+#![tactic(auto)]
+
 ghost use Rattle.pool_check.specs.Parts.{Checked};
 
 use geometry::Record;

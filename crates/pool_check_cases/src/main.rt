@@ -1,5 +1,7 @@
 // Runs the check on a table of pools, most of them with one fault, and writes each one's label and verdict.
 // `tests/damaged_pools.py` makes the table and what is to be written.
+#![tactic(auto)]
+
 ghost use Rattle.std.specs.Prelude.{◌+◌, ◌≤◌, ◌<◌, length};
 
 use geometry::Record;

@@ -1,5 +1,7 @@
 // The entries of a branch, one at a time, which child takes a place, how many entries a block may have, and its summary, which is what its
 // parent's entry says of it.
+#![tactic(auto)]
+
 use geometry::Record;
 
 mod choice;

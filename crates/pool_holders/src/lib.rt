@@ -1,4 +1,6 @@
 // The map of the blocks' holders: a byte for each block of the pool, 0 where it is free, else the number that stands for its holder.
+#![tactic(auto)]
+
 ghost use Rattle.std.specs.Prelude.{◌≡◌, ◌≤◌, ◌<◌, length};
 ghost use Rattle.geometry.specs.Limits.{names};
 ghost use Rattle.pool_holders.specs.Maps.{holder_of, free_in, BlockTaken, GivenBack};

@@ -1,5 +1,7 @@
 // The lines of one call of the index. A bad line is answered as it is read; a frame joins the commands, and a line of zeros keeps the place
 // of its answer until the call has been made.
+#![tactic(auto)]
+
 ghost use Rattle.std.specs.Prelude.{◌≡◌, ◌+◌, ◌*◌, ◌≤◌, length, get_or};
 ghost use Rattle.geometry.specs.Limits.{frame_size};
 ghost use Rattle.text_hex.specs.Lines.{line_size};

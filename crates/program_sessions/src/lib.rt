@@ -1,5 +1,7 @@
 // A session with the index: lines of digits that come in chunks, each answered by a line. specs/Session.antt says what is written for a
 // whole input; the functions here follow it chunk by chunk. All lines of a chunk go through one call of the index, as far as there is room.
+#![tactic(auto)]
+
 ghost use Rattle.std.specs.Prelude.{◌≡◌, ◌*◌};
 ghost use Rattle.text_hex.specs.Lines.{line_size};
 ghost use Rattle.program_sessions.specs.Call.{Asks, AnswersLines};

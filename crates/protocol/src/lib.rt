@@ -1,4 +1,6 @@
 // Command and answer frames: eight bytes each, the number high byte first.
+#![tactic(auto)]
+
 ghost use Rattle.std.specs.Prelude.{◌≡◌, ◌+◌, ◌≤◌, length, take, drop};
 ghost use Rattle.std.proofs.Math.Seq.{paste};
 ghost use Rattle.geometry.specs.Limits.{frame_size};

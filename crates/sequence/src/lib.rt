@@ -1,4 +1,6 @@
 // Marks in lent bytes, one to a byte: how many of them are a symbol, and where its j-th stands.
+#![tactic(auto)]
+
 ghost use Rattle.std.specs.Prelude.{◌≡◌, ◌-◌, ◌≤◌, length, take, drop};
 ghost use Rattle.sequence.specs.Definition1.{count, select};
 

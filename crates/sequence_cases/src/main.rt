@@ -1,5 +1,7 @@
 // What `sequence` answers on lent bytes, compared with answers found one mark at a time: on every list of at most six marks
 // over three symbols, and on a list that is longer than two counting pieces.
+#![tactic(auto)]
+
 ghost use Rattle.std.specs.Prelude.{◌≤◌, length};
 
 use libc::STDOUT_FILENO;

@@ -1,4 +1,6 @@
 // Marks for the lines of a fixed-form Fortran program (RULES, Marks of a line).
+#![tactic(auto)]
+
 ghost use Rattle.std.specs.Prelude.{◌≡◌};
 ghost use Rattle.text_fixed_form.specs.Mark.{mark_of, first_that_fits, rules, is_comment, is_continuation, opens_comment, continues};
 

@@ -1,4 +1,6 @@
 // Frames and answers as lines of sixteen hexadecimal digits. Both directions go by constant tables.
+#![tactic(auto)]
+
 mod digit;
 mod read;
 mod tables;

@@ -1,5 +1,7 @@
 // Lines of a stream that comes in chunks of any size. Of each line the first bytes are kept in a buffer that the caller
 // lends, as many as it has room for, and the line's length is counted. specs/Lines.antt says what the lines are.
+#![tactic(auto)]
+
 ghost use Rattle.std.specs.Prelude.{Bool, List, [], ◌≡◌, ℕ, ◌+◌, min, take};
 ghost use Rattle.text_lines.specs.Lines.{most_length, Stands, Adds, Finishes, Accepts, Gathers};
 

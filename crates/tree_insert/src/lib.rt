@@ -1,4 +1,6 @@
 // Marks put into a name's tree: the way down to a leaf, and back up it with what became of each block.
+#![tactic(auto)]
+
 mod descent;
 mod insert;
 mod tree;

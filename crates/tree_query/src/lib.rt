@@ -1,4 +1,6 @@
 // Queries of a tree in the pool: they go down from the root, one block a level.
+#![tactic(auto)]
+
 mod by_name;
 mod descent;
 

@@ -1,5 +1,7 @@
 // What `tree_query` answers of a pool on standard input, compared with answers found one mark at a time: of every open name, every place
 // and every symbol. The pool and the marks that it should bear are those of tests/query_pool.py, which knows docs/LAYOUT.md alone.
+#![tactic(auto)]
+
 ghost use Rattle.std.specs.Prelude.{◌*◌, ◌≤◌, ◌<◌, length};
 ghost use Rattle.geometry.specs.Limits.{names, most_alphabet};
 ghost use Rattle.pool.specs.Sound.{Sound};

@@ -1,5 +1,7 @@
 // What an insert does to single blocks: a leaf takes a mark, a branch takes up that a child was split, and a new root stands above two
 // halves. A full block is split, and only then a block is taken from the map of holders.
+#![tactic(auto)]
+
 mod branches;
 mod leaves;
 mod root;
