@@ -12,7 +12,7 @@ pub use layout::Layout;
 pub use limits::Limits;
 
 // What the directory says of one name.
-#[derive(Drop)]
+#[derive(Clone, Copy)]
 pub struct Record {
     pub kind: u8,
     pub alphabet: u8,
