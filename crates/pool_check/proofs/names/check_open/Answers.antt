@@ -17,7 +17,7 @@ returns-then-not-check_block c = search (root-refused, not-true)
 -- the root that was walked is a sound block
 pub root_fits-requires : goal.root_fits-requires
 root_fits-requires c =
-    let root = (walk-found _ (not-false _ c.if-not-check_block.false) c.check_block.ensures).0 in
+    let root = (walk-found _ c.if-not-check_block.false c.check_block.ensures).0 in
     (root.inside, root.fits)
 
 pub returns-then-not-root_fits : goal.returns-then-not-root_fits
@@ -25,7 +25,7 @@ returns-then-not-root_fits c = search (root-unfit, not-true)
 
 pub own_marks-requires : goal.own_marks-requires
 own_marks-requires c =
-    let root = (walk-found _ (not-false _ c.if-not-check_block.false) c.check_block.ensures).0 in
+    let root = (walk-found _ c.if-not-check_block.false c.check_block.ensures).0 in
     (root.inside, root.fits)
 
 pub returns : goal.returns
