@@ -3,7 +3,6 @@ use mathlib.Core.Path.{◌≡◌, refl, ap, ◌∙◌}
 use mathlib.Core.List.{List}
 use Prim.Native.Nat.{ℕ, zero, suc, ◌≤◌, ◌<◌}
 use native.Mathlib.Omega.{arith}
-use lib.ListN.{length}
 use Rattle.geometry.specs.Layout.{least_branch, most_branch}
 use Rattle.geometry.specs.Limits.{most_alphabet}
 use Rattle.geometry.specs.declared.Record.{Record}

@@ -4,14 +4,20 @@ use Rattle.tree_query.proofs.Records.{record-good}
 use Rattle.tree_query.proofs.Counted.{leaf-ready, leaf-counted, branch-inside, branch-least, branch-most, branch-few, branch-counted}
 use Rattle.tree_query.proofs.by_name.count.Goals as goal
 
-pub rank_in-requires : goal.rank_in-requires
-rank_in-requires c = ((search record-good, search rules), search leaf-ready)
+pub rank_in-requires-clause-tree : goal.rank_in-requires-clause-tree
+rank_in-requires-clause-tree c = (search record-good, search rules)
+
+pub rank_in-requires-clause-place : goal.rank_in-requires-clause-place
+rank_in-requires-clause-place c = search leaf-ready
 
 pub returns-then-found-eq0 : goal.returns-then-found-eq0
 returns-then-found-eq0 c = search leaf-counted
 
-pub count_in_branch-requires : goal.count_in_branch-requires
-count_in_branch-requires c = ((search branch-inside, search rules), (search branch-least, search branch-most, search branch-few))
+pub count_in_branch-requires-clause-inside : goal.count_in_branch-requires-clause-inside
+count_in_branch-requires-clause-inside c = (search branch-inside, search rules)
+
+pub count_in_branch-requires-clause-size : goal.count_in_branch-requires-clause-size
+count_in_branch-requires-clause-size c = (search branch-least, search branch-most, search branch-few)
 
 pub returns : goal.returns
 returns c = search branch-counted

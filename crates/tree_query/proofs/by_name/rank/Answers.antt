@@ -3,5 +3,5 @@ use borrow.Author.Rules.{rules}
 use Rattle.tree_query.proofs.Records.{record-good}
 use Rattle.tree_query.proofs.by_name.rank.Goals as goal
 
-pub rank_in-requires : goal.rank_in-requires
-rank_in-requires c = ((search record-good, search rules), search rules)
+pub rank_in-requires-clause-tree : goal.rank_in-requires-clause-tree
+rank_in-requires-clause-tree c = (search record-good, search rules)

@@ -3,5 +3,8 @@ use borrow.Author.Rules.{rules}
 use Rattle.tree_query.proofs.Records.{record-good, record-few}
 use Rattle.tree_query.proofs.by_name.select.Goals as goal
 
-pub select_in-requires : goal.select_in-requires
-select_in-requires c = ((search record-good, search rules), (search rules, search rules, search record-few))
+pub select_in-requires-clause-tree : goal.select_in-requires-clause-tree
+select_in-requires-clause-tree c = (search record-good, search rules)
+
+pub select_in-requires-clause-number : goal.select_in-requires-clause-number
+select_in-requires-clause-number c = (search rules, search rules, search record-few)
