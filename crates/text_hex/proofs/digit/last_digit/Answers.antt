@@ -3,16 +3,8 @@ use Prim.Native.Nat.{◌%◌}
 use borrow.Author.Rules.{rules}
 use Rattle.text_hex.specs.Digits.{digit_of}
 use Rattle.text_hex.proofs.Rules.{values-at}
-use Rattle.text_hex.proofs.digit.last_digit.Statement.{statement}
-use Rattle.text_hex.proofs.digit.last_digit.Tie as tie
+use Rattle.text_hex.proofs.digit.last_digit.Goals as goal
 
-returns : tie.Need-returns
+pub returns : goal.returns
 unfolding digit_of
 returns c = values-at digit_of 16 (c.args.number % 16) (search rules)
-
-pub last-digit-spec : {M : Type 1} → statement M
-last-digit-spec =
-    tie.close
-    (tie.spec
-    (λ c. search rules)
-    returns)
