@@ -2,10 +2,10 @@
 use Rattle.text_lines.proofs.Trims.{waits-return, rule-off, other_byte}
 use Rattle.text_lines.proofs.Standing.{accepts-return, accepts-other}
 use Rattle.text_lines.proofs.accept.Goals as goal
-use Rattle.text_lines.proofs.accept.Goals.{else-returns, then-returns}
+use Rattle.text_lines.proofs.accept.Goals.{else-returns, then-returns+else-byte-eq-CARRIAGE_RETURN}
 
 pub returns-then-byte-eq-CARRIAGE_RETURN : goal.returns-then-byte-eq-CARRIAGE_RETURN
 returns-then-byte-eq-CARRIAGE_RETURN c = search (accepts-return, waits-return)
 
 pub returns : goal.returns
-returns c = elim c.if-returns.branch [ then-returns w ↦ search (accepts-other, other_byte) | else-returns w ↦ search (accepts-other, rule-off) ]
+returns c = elim c.if-returns.branch [ then-returns+else-byte-eq-CARRIAGE_RETURN w ↦ search (accepts-other, other_byte) | else-returns w ↦ search (accepts-other, rule-off) ]

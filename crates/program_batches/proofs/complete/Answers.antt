@@ -1,0 +1,14 @@
+use Rattle.program_batches.proofs.Completed.{completing-none, place-there, answer-there, completing-more, completing-all}
+use Rattle.program_batches.proofs.complete.Goals as goal
+
+pub loop-line-init : goal.loop-line-init
+loop-line-init c = search completing-none
+
+pub put_answer-used-requires : goal.put_answer-used-requires
+put_answer-used-requires c = (search place-there, search answer-there)
+
+pub loop-line-preserved : goal.loop-line-preserved
+loop-line-preserved c = search completing-more
+
+pub returns : goal.returns
+returns c = search completing-all
