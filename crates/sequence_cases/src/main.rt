@@ -4,7 +4,7 @@
 
 ghost use Rattle.std.specs.Prelude.{◌≤◌, length};
 
-use libc::STDOUT_FILENO;
+use std::io;
 
 // How many of the marks from `from` up to, not including, `to` are `symbol`.
 fn plain_count(marks: &[u8], from: usize, to: usize, symbol: u8) -> usize
@@ -139,10 +139,10 @@ fn all_agree() -> bool {
     long_list_agrees()
 }
 
-fn main() {
+fn main(rt: HostRuntime) -> io::Result<()> {
     if all_agree() {
-        io::write_all(STDOUT_FILENO, b"sequence agrees in all cases\n");
+        println!(rt; "sequence agrees in all cases")
     } else {
-        io::write_all(STDOUT_FILENO, b"sequence differs in some case\n");
+        println!(rt; "sequence differs in some case")
     }
 }
