@@ -9,7 +9,7 @@ ghost use Rattle.protocol.specs.Respond.{refused as refusedWith, value_to};
 
 mod numbers;
 
-#[derive(Drop)]
+#[derive(Clone, Copy)]
 pub struct Command {
     pub code: u8,
     pub name: u8,

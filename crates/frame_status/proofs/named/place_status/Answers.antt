@@ -1,0 +1,9 @@
+-- `frame_status::named::place_status` meets its contract: one law for each status that a delete or an access can get.
+use Rattle.frame_status.proofs.Statuses.{place-outside, place-passes}
+use Rattle.frame_status.proofs.named.place_status.Goals as goal
+
+pub returns-then-not-is_place : goal.returns-then-not-is_place
+returns-then-not-is_place c = search place-outside
+
+pub returns : goal.returns
+returns c = search place-passes
