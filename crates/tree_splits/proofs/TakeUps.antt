@@ -14,7 +14,7 @@ use Rattle.sequence.specs.Definition1.{is_mark, count}
 use Rattle.shape.specs.Level.{chop}
 use Rattle.shape.specs.Nested.{flat, marks_in}
 use Rattle.pool.proofs.Summaries.{own-marks, own-count}
-use Rattle.pool.specs.Blocks.{entries, link, marks_below, count_below}
+use Rattle.pool.specs.Blocks.{entries, marks_below, count_below}
 use Rattle.pool.specs.Bytes.{shares}
 use Rattle.pool.specs.Trees.{shape_at}
 use Rattle.pool.specs.Words.{word_limit}
