@@ -3,7 +3,8 @@
 #![tactic(auto)]
 
 use geometry::Record;
-use libc::{STDERR_FILENO, STDIN_FILENO, STDOUT_FILENO};
+use std::io::Read;
+use std::process::ExitCode;
 use text_hex::LINE_SIZE;
 use text_lines::Gathered;
 
@@ -18,53 +19,62 @@ enum Round {
     Failed,
 }
 
-// A proved loop has to end, and nothing says that the input does: the turns are counted down from a number that no run uses up.
-fn main() {
+// A proved loop has to end, and nothing says that the input does: the turns are counted up to a number that no run reaches.
+fn main(rt: HostRuntime) -> ExitCode {
+    let mut input = rt.stdin();
     let mut keep = [0u8; LINE_SIZE];
     let mut pool = [0u8; Record::PROGRAM_POOL];
     let mut line = program_sessions::start(&mut pool);
-    let mut turns = u64::MAX;
-    while turns > 0 {
-        match answer_once(line, &mut keep, &mut pool) {
+    for _ in 0..u64::MAX {
+        match answer_once(&rt, &mut input, line, &mut keep, &mut pool) {
             Round::More(next) => {
                 line = next;
             }
             Round::Over => {
-                answer_last(line, &mut keep, &mut pool);
-                return;
+                return answer_last(&rt, line, &mut keep, &mut pool);
             }
             Round::Failed => {
-                return;
+                return ExitCode::FAILURE;
             }
         }
-        turns -= 1;
     }
+    ExitCode::SUCCESS
 }
 
 // Reads once and answers the lines that end in what came.
-fn answer_once(line: Gathered, keep: &mut [u8], pool: &mut [u8]) -> Round {
+fn answer_once(
+    rt: &(impl Print + Eprint),
+    input: &mut impl Read,
+    line: Gathered,
+    keep: &mut [u8],
+    pool: &mut [u8],
+) -> Round {
     let mut chunk = [0u8; CHUNK];
-    let got = libc::read(STDIN_FILENO, &mut chunk);
-    if got < 0 {
-        io::write_all(STDERR_FILENO, b"answers: standard input can't be read\n");
-        return Round::Failed;
+    match input.read(&mut chunk) {
+        Ok(0) => Round::Over,
+        Ok(n) => answer_chunk(rt, &chunk[..n], line, keep, pool),
+        Err(_) => {
+            let _ = eprintln!(rt; "answers: standard input can't be read");
+            Round::Failed
+        }
     }
-    if got == 0 {
-        return Round::Over;
-    }
-    let n = io::count(got, &chunk);
-    answer_chunk(&chunk[..n], line, keep, pool)
 }
 
 // Answers the lines that end in a chunk, as many at a time as there is room for.
-fn answer_chunk(chunk: &[u8], before: Gathered, keep: &mut [u8], pool: &mut [u8]) -> Round {
+fn answer_chunk(
+    rt: &(impl Print + Eprint),
+    chunk: &[u8],
+    before: Gathered,
+    keep: &mut [u8],
+    pool: &mut [u8],
+) -> Round {
     let mut out = [0u8; ROOM];
     let mut line = before;
     let mut at = 0;
     while at < chunk.len() {
         let taken = program_sessions::take_in(&chunk[at..], line, keep, pool, &mut out);
         let filled = taken.filled;
-        if !write_out(&out[..filled]) {
+        if !write_out(rt, &out[..filled]) {
             return Round::Failed;
         }
         at += taken.taken;
@@ -73,21 +83,27 @@ fn answer_chunk(chunk: &[u8], before: Gathered, keep: &mut [u8], pool: &mut [u8]
     Round::More(line)
 }
 
-// Answers a last line without a line feed.
-fn answer_last(line: Gathered, keep: &mut [u8], pool: &mut [u8]) {
+// Answers a last line without a line feed, and tells how the program ends.
+fn answer_last(
+    rt: &(impl Print + Eprint),
+    line: Gathered,
+    keep: &mut [u8],
+    pool: &mut [u8],
+) -> ExitCode {
     let mut out = [0u8; LINE_SIZE];
     let filled = program_sessions::finish(line, keep, pool, &mut out);
-    write_out(&out[..filled]);
+    if write_out(rt, &out[..filled]) {
+        ExitCode::SUCCESS
+    } else {
+        ExitCode::FAILURE
+    }
 }
 
 // Writes answers, and says so on standard error where that fails.
-fn write_out(answers: &[u8]) -> bool {
-    let is_written = io::write_all(STDOUT_FILENO, answers);
+fn write_out(rt: &(impl Print + Eprint), answers: &[u8]) -> bool {
+    let is_written = rt.write_all(answers).is_ok();
     if !is_written {
-        io::write_all(
-            STDERR_FILENO,
-            b"answers: standard output can't be written\n",
-        );
+        let _ = eprintln!(rt; "answers: standard output can't be written");
     }
     is_written
 }

@@ -6,8 +6,9 @@ ghost use Rattle.std.specs.Prelude.{◌≤◌, length};
 ghost use Rattle.text_hex.specs.Lines.{line_size};
 
 use geometry::Record;
-use libc::{STDERR_FILENO, STDIN_FILENO, STDOUT_FILENO};
 use program_insertions::Progress;
+use std::io::Read;
+use std::process::ExitCode;
 
 // What came of one read.
 #[derive(Drop)]
@@ -20,54 +21,73 @@ enum Round {
     Failed,
 }
 
-fn main() {
+// bytes that are read at once, and bytes of frames that are written at once
+const LARGE: usize = 65536;
+
+fn main(rt: HostRuntime) -> ExitCode {
     let mut keep = [0u8; Record::LAST_COLUMN];
-    let mut chunk = io::large_buffer();
-    let mut out = io::large_buffer();
-    read_all(&mut keep, &mut chunk, &mut out);
+    let mut chunk = [0u8; LARGE];
+    let mut out = [0u8; LARGE];
+    read_all(&rt, &mut rt.stdin(), &mut keep, &mut chunk, &mut out)
 }
 
-// A proved loop has to end, and nothing says that the input does: the turns are counted down from a number that no run uses up.
-fn read_all(keep: &mut [u8], chunk: &mut [u8], out: &mut [u8])
+// Reads to the end of the input, and tells how the program ends.
+// A proved loop has to end, and nothing says that the input does: the turns are counted up to a number that no run reaches.
+fn read_all(
+    rt: &(impl Print + Eprint),
+    input: &mut impl Read,
+    keep: &mut [u8],
+    chunk: &mut [u8],
+    out: &mut [u8],
+) -> ExitCode
     requires { line_size ≤ length out.old }
 {
     let mut progress = Progress::start();
-    let mut turns = u64::MAX;
-    while turns > 0 {
-        match read_once(progress, keep, chunk, out) {
+    for _ in 0..u64::MAX {
+        match read_once(rt, input, progress, keep, chunk, out) {
             Round::More(next) => {
                 progress = next;
             }
             Round::Over => {
-                write_last(progress, keep, out);
-                return;
+                return write_last(rt, progress, keep, out);
             }
             Round::Failed => {
-                return;
+                return ExitCode::FAILURE;
             }
         }
-        turns -= 1;
     }
+    ExitCode::SUCCESS
 }
 
 // Reads once and writes the frames of the lines that end in what came.
-fn read_once(progress: Progress, keep: &mut [u8], chunk: &mut [u8], out: &mut [u8]) -> Round
+fn read_once(
+    rt: &(impl Print + Eprint),
+    input: &mut impl Read,
+    progress: Progress,
+    keep: &mut [u8],
+    chunk: &mut [u8],
+    out: &mut [u8],
+) -> Round
     requires { line_size ≤ length out.old }
 {
-    let got = libc::read(STDIN_FILENO, chunk);
-    if got < 0 {
-        io::write_all(STDERR_FILENO, b"marks: standard input can't be read\n");
-        return Round::Failed;
+    match input.read(chunk) {
+        Ok(0) => Round::Over,
+        Ok(n) => write_frames(rt, &chunk[..n], progress, keep, out),
+        Err(_) => {
+            let _ = eprintln!(rt; "marks: standard input can't be read");
+            Round::Failed
+        }
     }
-    if got == 0 {
-        return Round::Over;
-    }
-    let n = io::count(got, chunk);
-    write_frames(&chunk[..n], progress, keep, out)
 }
 
 // Writes the frames of the lines that end in a chunk, as many at a time as out holds.
-fn write_frames(chunk: &[u8], before: Progress, keep: &mut [u8], out: &mut [u8]) -> Round
+fn write_frames(
+    rt: &(impl Print + Eprint),
+    chunk: &[u8],
+    before: Progress,
+    keep: &mut [u8],
+    out: &mut [u8],
+) -> Round
     requires { line_size ≤ length out.old }
 {
     let mut progress = before;
@@ -75,7 +95,7 @@ fn write_frames(chunk: &[u8], before: Progress, keep: &mut [u8], out: &mut [u8])
     while at < chunk.len() {
         let taken = program_insertions::take_in(&chunk[at..], progress, keep, out);
         let filled = taken.filled;
-        if !write_out(&out[..filled]) {
+        if !write_out(rt, &out[..filled]) {
             return Round::Failed;
         }
         at += taken.taken;
@@ -84,19 +104,28 @@ fn write_frames(chunk: &[u8], before: Progress, keep: &mut [u8], out: &mut [u8])
     Round::More(progress)
 }
 
-// Writes the frame of a last line without a line feed.
-fn write_last(progress: Progress, keep: &mut [u8], out: &mut [u8])
+// Writes the frame of a last line without a line feed, and tells how the program ends.
+fn write_last(
+    rt: &(impl Print + Eprint),
+    progress: Progress,
+    keep: &mut [u8],
+    out: &mut [u8],
+) -> ExitCode
     requires { line_size ≤ length out.old }
 {
     let filled = program_insertions::finish(progress, keep, out);
-    write_out(&out[..filled]);
+    if write_out(rt, &out[..filled]) {
+        ExitCode::SUCCESS
+    } else {
+        ExitCode::FAILURE
+    }
 }
 
 // Writes frames, and says so on standard error where that fails.
-fn write_out(frames: &[u8]) -> bool {
-    let is_written = io::write_all(STDOUT_FILENO, frames);
+fn write_out(rt: &(impl Print + Eprint), frames: &[u8]) -> bool {
+    let is_written = rt.write_all(frames).is_ok();
     if !is_written {
-        io::write_all(STDERR_FILENO, b"marks: standard output can't be written\n");
+        let _ = eprintln!(rt; "marks: standard output can't be written");
     }
     is_written
 }

@@ -5,7 +5,8 @@
 ghost use Rattle.std.specs.Prelude.{◌+◌, ◌≤◌, ◌<◌, length};
 
 use geometry::Record;
-use libc::{STDIN_FILENO, STDOUT_FILENO};
+use std::io;
+use std::io::Read;
 
 // Bytes before each pool: its length, how many of its bytes follow, and a label.
 const HEAD_SIZE: usize = 64;
@@ -17,43 +18,61 @@ const LABEL_AT: usize = 6;
 // Room for a pool that is too long by a block.
 const ROOM: usize = Record::LONGEST_POOL + Record::BLOCK_SIZE;
 
-fn main() {
+fn main(rt: HostRuntime) -> io::Result<()> {
+    let mut input = rt.stdin();
     let mut head = [0u8; HEAD_SIZE];
-    let mut turns: usize = 1000;
-    while turns > 0 {
-        if io::read_full(STDIN_FILENO, &mut head) < HEAD_SIZE {
-            return;
+    for _ in 0..1000 {
+        if read_full(&mut input, &mut head)? < HEAD_SIZE {
+            return Ok(());
         }
         let mut pool = [0u8; ROOM];
-        run_case(&head, &mut pool);
-        turns -= 1;
+        run_case(&rt, &mut input, &head, &mut pool)?;
     }
+    Ok(())
 }
 
 // Reads the bytes behind a head to the front of a pool of zeros, and writes the head's label with the verdict.
-fn run_case(head: &[u8], pool: &mut [u8]) {
+fn run_case(
+    rt: &impl Print,
+    input: &mut impl Read,
+    head: &[u8],
+    pool: &mut [u8],
+) -> io::Result<()> {
     if head.len() < HEAD_SIZE {
-        return;
+        return Ok(());
     }
     let told = number(head, 0);
     let given = number(head, NUMBER_SIZE);
     if told > pool.len() {
-        return;
+        return Ok(());
     }
     if given > told {
-        return;
+        return Ok(());
     }
-    let long = io::read_full(STDIN_FILENO, &mut pool[..given]);
+    let long = read_full(input, &mut pool[..given])?;
     if long < given {
-        return;
+        return Ok(());
     }
-    io::write_all(STDOUT_FILENO, &head[LABEL_AT..]);
+    rt.write_all(&head[LABEL_AT..])?;
     let mut map = [0u8; Record::MOST_SHARES];
     if pool_check::check(&pool[..told], &mut map) {
-        io::write_all(STDOUT_FILENO, b"sound\n");
+        rt.write_all(b"sound\n")
     } else {
-        io::write_all(STDOUT_FILENO, b"refused\n");
+        rt.write_all(b"refused\n")
     }
+}
+
+// Reads until the buffer is full or the input ends, and tells how many bytes stand at its front then.
+fn read_full(input: &mut impl Read, buf: &mut [u8]) -> io::Result<usize> {
+    let mut done = 0;
+    while done < buf.len() {
+        let n = input.read(&mut buf[done..])?;
+        if n == 0 {
+            break;
+        }
+        done += n;
+    }
+    Ok(done)
 }
 
 // A number of three bytes, low byte first.

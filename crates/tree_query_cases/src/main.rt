@@ -10,7 +10,8 @@ ghost use Rattle.tree_query.specs.Records.{OfOpenName, tree_by};
 ghost use Rattle.tree_query_cases.specs.Slots.{slot_size};
 
 use geometry::Record;
-use libc::{STDIN_FILENO, STDOUT_FILENO};
+use std::io;
+use std::io::Read;
 
 // bytes of the pool
 const POOL: usize = 8192;
@@ -21,76 +22,110 @@ const NUMBER_AT: usize = 2;
 // where it has the marks
 const MARKS_AT: usize = 4;
 
-fn main() {
+fn main(rt: HostRuntime) -> io::Result<()> {
+    let mut input = rt.stdin();
     let mut pool = [0u8; POOL];
     let mut slots = [0u8; SLOT * Record::NAMES];
     let mut map = [0u8; Record::MOST_SHARES];
-    io::read_full(STDIN_FILENO, &mut pool);
-    io::read_full(STDIN_FILENO, &mut slots);
+    read_full(&mut input, &mut pool)?;
+    read_full(&mut input, &mut slots)?;
     if pool_check::check(&pool, &mut map) {
-        compare_names(&pool, &slots);
+        compare_names(&rt, &pool, &slots)
     } else {
-        io::write_all(STDOUT_FILENO, b"the pool isn't sound\n");
+        println!(rt; "the pool isn't sound")
     }
 }
 
+// Reads until the buffer is full or the input ends.
+fn read_full(input: &mut impl Read, buf: &mut [u8]) -> io::Result<()> {
+    let mut done = 0;
+    while done < buf.len() {
+        let n = input.read(&mut buf[done..])?;
+        if n == 0 {
+            break;
+        }
+        done += n;
+    }
+    Ok(())
+}
+
 // Compares each name with its slot.
-fn compare_names(pool: &[u8], slots: &[u8])
+fn compare_names(rt: &impl Print, pool: &[u8], slots: &[u8]) -> io::Result<()>
     requires { Sound pool.now × (slot_size * names ≤ length slots.now) }
 {
     let mut name = 0;
     while name < Record::NAMES {
         let at = SLOT * name;
         let end = at + SLOT;
-        compare_name(pool, name, &slots[at..end]);
+        compare_name(rt, pool, name, &slots[at..end])?;
         name += 1;
     }
+    Ok(())
 }
 
 // Compares a name with its slot, if it is open.
-fn compare_name(pool: &[u8], name: usize, slot: &[u8])
+fn compare_name(rt: &impl Print, pool: &[u8], name: usize, slot: &[u8]) -> io::Result<()>
     requires { (name < names) × Sound pool.now × (slot_size ≤ length slot.now) }
 {
     let found = pool::read_record(pool, name);
     if found.kind == Record::KIND_CLOSED {
-        return;
+        return Ok(());
     }
-    compare_open(pool, name, found, slot);
+    compare_open(rt, pool, name, found, slot)
 }
 
 // Compares an open name with its slot, by the record that was read, and says what came of it.
-fn compare_open(pool: &[u8], name: usize, found: Record, slot: &[u8])
+fn compare_open(
+    rt: &impl Print,
+    pool: &[u8],
+    name: usize,
+    found: Record,
+    slot: &[u8],
+) -> io::Result<()>
     requires { OfOpenName pool.now found × (slot_size ≤ length slot.now) }
 {
     let depth = pool::wide(slot[0]);
     let number = pool::word(slot, NUMBER_AT);
     if found.length as usize != number {
-        tell(name, b"its length differs from", number);
-        return;
+        return tell(rt, name, "its length differs from", number);
     }
     if number > slot.len() - MARKS_AT {
-        tell(name, b"its slot is too short for", number);
-        return;
+        return tell(rt, name, "its slot is too short for", number);
     }
     let end = MARKS_AT + number;
-    if answers_right(pool, name, found, depth, &slot[MARKS_AT..end]) {
-        tell_right(name, number, depth);
+    if answers_right(rt, pool, name, found, depth, &slot[MARKS_AT..end])? {
+        tell_right(rt, name, number, depth)?;
     }
+    Ok(())
 }
 
 // Every answer of a name that should have these marks, all of them at one depth.
-fn answers_right(pool: &[u8], name: usize, found: Record, depth: usize, marks: &[u8]) -> bool
+fn answers_right(
+    rt: &impl Print,
+    pool: &[u8],
+    name: usize,
+    found: Record,
+    depth: usize,
+    marks: &[u8],
+) -> io::Result<bool>
     requires opened { OfOpenName pool.now found }
     requires long { length marks.now ≤ length (marks_t (tree_by pool.now found)) }
 {
-    if !marks_right(pool, name, found, depth, marks) {
-        return false;
+    if !marks_right(rt, pool, name, found, depth, marks)? {
+        return Ok(false);
     }
-    symbols_right(pool, name, found, marks)
+    symbols_right(rt, pool, name, found, marks)
 }
 
 // The mark at every place, and its depth.
-fn marks_right(pool: &[u8], name: usize, found: Record, depth: usize, marks: &[u8]) -> bool
+fn marks_right(
+    rt: &impl Print,
+    pool: &[u8],
+    name: usize,
+    found: Record,
+    depth: usize,
+    marks: &[u8],
+) -> io::Result<bool>
     requires opened { OfOpenName pool.now found }
     requires long { length marks.now ≤ length (marks_t (tree_by pool.now found)) }
 {
@@ -98,41 +133,54 @@ fn marks_right(pool: &[u8], name: usize, found: Record, depth: usize, marks: &[u
     while i < marks.len() {
         let place = tree_query::access(pool, found, i + 1);
         if place.mark != marks[i] {
-            tell(name, b"access differs at place", i + 1);
-            return false;
+            tell(rt, name, "access differs at place", i + 1)?;
+            return Ok(false);
         }
         if place.blocks != depth {
-            tell(name, b"the depth differs at place", i + 1);
-            return false;
+            tell(rt, name, "the depth differs at place", i + 1)?;
+            return Ok(false);
         }
         i += 1;
     }
-    true
+    Ok(true)
 }
 
 // The ranks and places of every symbol, those past the name's alphabet too.
-fn symbols_right(pool: &[u8], name: usize, found: Record, marks: &[u8]) -> bool
+fn symbols_right(
+    rt: &impl Print,
+    pool: &[u8],
+    name: usize,
+    found: Record,
+    marks: &[u8],
+) -> io::Result<bool>
     requires opened { OfOpenName pool.now found }
     requires long { length marks.now ≤ length (marks_t (tree_by pool.now found)) }
 {
     let mut symbol: u8 = 0;
     while (symbol as usize) < Record::MOST_ALPHABET {
-        if !places_right(pool, name, found, symbol, marks) {
-            tell(name, b"asked for symbol", symbol as usize);
-            return false;
+        if !places_right(rt, pool, name, found, symbol, marks)? {
+            tell(rt, name, "asked for symbol", symbol as usize)?;
+            return Ok(false);
         }
         symbol += 1;
     }
-    true
+    Ok(true)
 }
 
 // The rank of a symbol at every place from 0 on, counted one mark at a time, and the place of each that is met.
-fn places_right(pool: &[u8], name: usize, found: Record, symbol: u8, marks: &[u8]) -> bool
+fn places_right(
+    rt: &impl Print,
+    pool: &[u8],
+    name: usize,
+    found: Record,
+    symbol: u8,
+    marks: &[u8],
+) -> io::Result<bool>
     requires opened { OfOpenName pool.now found × (symbol < most_alphabet) }
     requires long { length marks.now ≤ length (marks_t (tree_by pool.now found)) }
 {
-    if !place_right(pool, name, found, symbol, 0, 0, 0) {
-        return false;
+    if !place_right(rt, pool, name, found, symbol, 0, 0, 0)? {
+        return Ok(false);
     }
     let mut met = 0;
     let mut i = 0;
@@ -142,15 +190,16 @@ fn places_right(pool: &[u8], name: usize, found: Record, symbol: u8, marks: &[u8
             met += 1;
         }
         i += 1;
-        if !place_right(pool, name, found, symbol, i, before, met) {
-            return false;
+        if !place_right(rt, pool, name, found, symbol, i, before, met)? {
+            return Ok(false);
         }
     }
-    true
+    Ok(true)
 }
 
 // The rank at a place, where so many should be met up to it, and so many before it; where that is one more, the place of the last met.
 fn place_right(
+    rt: &impl Print,
     pool: &[u8],
     name: usize,
     found: Record,
@@ -158,44 +207,36 @@ fn place_right(
     place: usize,
     before: usize,
     met: usize,
-) -> bool
+) -> io::Result<bool>
     requires opened { OfOpenName pool.now found × (symbol < most_alphabet) }
     requires inside { place ≤ length (marks_t (tree_by pool.now found)) }
 {
     if tree_query::rank(pool, found, symbol, place) != met {
-        tell(name, b"rank differs at place", place);
-        return false;
+        tell(rt, name, "rank differs at place", place)?;
+        return Ok(false);
     }
     if met > before {
         if tree_query::select(pool, found, symbol, met) != place {
-            tell(name, b"select differs for place", place);
-            return false;
+            tell(rt, name, "select differs for place", place)?;
+            return Ok(false);
         }
     }
-    true
+    Ok(true)
 }
 
 // A line that says what differs.
-fn tell(name: usize, what: &[u8], number: usize) {
-    write_name(name);
-    io::write_all(STDOUT_FILENO, what);
-    io::write_all(STDOUT_FILENO, b" ");
-    io::print_decimal(STDOUT_FILENO, number as u64);
-    io::write_all(STDOUT_FILENO, b"\n");
+fn tell(rt: &impl Print, name: usize, what: &str, number: usize) -> io::Result<()> {
+    write_name(rt, name)?;
+    println!(rt; "{what} {number}")
 }
 
 // The line of a name of which all is right.
-fn tell_right(name: usize, number: usize, depth: usize) {
-    write_name(name);
-    io::print_decimal(STDOUT_FILENO, number as u64);
-    io::write_all(STDOUT_FILENO, b" marks at depth ");
-    io::print_decimal(STDOUT_FILENO, depth as u64);
-    io::write_all(STDOUT_FILENO, b", every answer right\n");
+fn tell_right(rt: &impl Print, name: usize, number: usize, depth: usize) -> io::Result<()> {
+    write_name(rt, name)?;
+    println!(rt; "{number} marks at depth {depth}, every answer right")
 }
 
 // How a line begins.
-fn write_name(name: usize) {
-    io::write_all(STDOUT_FILENO, b"name ");
-    io::print_decimal(STDOUT_FILENO, name as u64);
-    io::write_all(STDOUT_FILENO, b": ");
+fn write_name(rt: &impl Print, name: usize) -> io::Result<()> {
+    print!(rt; "name {name}: ")
 }
