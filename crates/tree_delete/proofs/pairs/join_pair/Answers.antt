@@ -1,0 +1,17 @@
+-- `tree_delete::pairs::join_pair` meets its contract: one entry is written, and the next is taken out.
+use Rattle.tree_delete.proofs.PairWrites.{two-nodes, remove-ready, join-returns, joined_small}
+use borrow.Author.Rules.{rules}
+use Rattle.tree_delete.proofs.pairs.join_pair.Goals as goal
+
+pub join_nodes-requires : goal.join_nodes-requires
+join_nodes-requires c = record { two = search two-nodes; fit = search rules }
+
+pub summary_of-summary-requires : goal.summary_of-summary-requires
+summary_of-summary-requires c = (search rules, search rules, search joined_small)
+
+-- by hand: a search compares too much here
+pub remove_entry-requires : goal.remove_entry-requires
+remove_entry-requires c = remove-ready _ _ _ _ _ _ _ c.requires.pair _ c.join_nodes.ensures c.set_entry.ensures
+
+pub returns : goal.returns
+returns c = search join-returns

@@ -1,0 +1,16 @@
+-- `tree_delete::pairs::share_pair` meets its contract: both entries are written anew.
+use Rattle.tree_delete.proofs.PairWrites.{two-nodes, share-returns, first_small, second-small}
+use borrow.Author.Rules.{rules}
+use Rattle.tree_delete.proofs.pairs.share_pair.Goals as goal
+
+pub share_nodes-requires : goal.share_nodes-requires
+share_nodes-requires c = record { two = search two-nodes; many = search rules }
+
+pub summary_of-first-requires : goal.summary_of-first-requires
+summary_of-first-requires c = (search rules, search rules, search first_small)
+
+pub summary_of-second-requires : goal.summary_of-second-requires
+summary_of-second-requires c = (search rules, search rules, search second-small)
+
+pub returns : goal.returns
+returns c = search share-returns
