@@ -1,7 +1,7 @@
 -- One level of a delete: the child that takes the place is ready for it, and what it left is what the branch can be brought up to date with.
 -- The branch itself and the other children's trees are as before.
 use mathlib.Core.Path.{◌≡◌, refl, sym, ap, ap₂, ◌∙◌}
-use mathlib.Core.List.{List, ◌∷◌, ◌++◌, map}
+use mathlib.Core.List.{List, ◌∷◌, ◌++◌}
 use Prim.Native.Nat.{ℕ, suc, ◌+◌, ◌-◌, ◌≤◌, ◌<◌}
 use native.Mathlib.Omega.{arith}
 use lib.ListN.{length, take, drop, length-append}
