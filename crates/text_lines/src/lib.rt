@@ -12,7 +12,7 @@ const CARRIAGE_RETURN: u8 = 13;
 const MOST_LENGTH: usize = 18446744073709551615;
 
 // A line that is being read, beside the buffer whose front holds its first bytes.
-#[derive(Drop)]
+#[derive(Clone, Copy)]
 pub struct Gathered {
     // how many bytes the buffer holds
     pub kept: usize,
