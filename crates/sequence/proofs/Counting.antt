@@ -1,6 +1,6 @@
 -- What the loops over marks know at each turn: how many marks of a stretch have been counted, and where in the rest a mark is sought. Each
 -- has a law for none, for one mark more by whether it is the symbol, and for the end.
-use mathlib.Core.Path.{◌≡◌, refl, sym, ap, ◌∙◌}
+use mathlib.Core.Path.{◌≡◌, sym, ap, ◌∙◌}
 use mathlib.Core.List.{List}
 use Prim.Native.Nat.{ℕ, ◌+◌, ◌-◌, ◌≤◌, ◌<◌}
 use native.Mathlib.Omega.{arith}
