@@ -8,7 +8,7 @@ use geometry::Record;
 use pool_check::{check, length_allowed};
 
 // What a call came to: its status, and the number of frames run.
-#[derive(Drop)]
+#[derive(Clone, Copy)]
 pub struct Outcome {
     pub status: u32,
     pub count: u32,

@@ -96,7 +96,7 @@ impl Record {
 }
 
 // The constants above, by the same names.
-#[derive(Drop)]
+#[derive(Clone, Copy)]
 pub struct Layout {
     pub header_size: usize,
     pub layout_number: u8,

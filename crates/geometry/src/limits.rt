@@ -72,7 +72,7 @@ impl Record {
 }
 
 // The constants above, by the same names.
-#[derive(Drop)]
+#[derive(Clone, Copy)]
 pub struct Limits {
     pub block_size: usize,
     pub directory_size: usize,

@@ -1,6 +1,5 @@
 -- What the parts of the check decide.
 use Rattle.std.specs.Prelude.{Bool, true, List, ◌⊎◌, ◌≡◌, ℕ, zero, suc, ◌+◌, ◌≤◌, ◌<◌, length}
-use Rattle.geometry.specs.Layout as Layout
 use Rattle.geometry.specs.Limits.{block_size, most_alphabet, most_shares}
 use Rattle.lists.specs.Items.{AllBelow}
 use Rattle.sequence.specs.Definition1.{count}

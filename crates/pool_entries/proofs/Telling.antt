@@ -1,7 +1,7 @@
 -- What entries tell of their children's marks: one that is written, and the others of its block.
 use mathlib.Core.Path.{◌≡◌, ap, ◌∙◌}
 use mathlib.Core.List.{List}
-use Prim.Native.Nat.{ℕ, ◌-◌, ◌<◌}
+use Prim.Native.Nat.{ℕ, ◌<◌}
 use Rattle.geometry.specs.Layout.{entry_size}
 use Rattle.geometry.specs.Limits.{most_alphabet}
 use Rattle.pool.specs.Blocks.{entry_at, link, marks_below, count_below}

@@ -17,14 +17,14 @@ pub use stores::{add_mark, set_entry, take_mark};
 pub use sums::summary_of;
 
 // How many marks a block has, and how many of them are each symbol.
-#[derive(Drop)]
+#[derive(Clone, Copy)]
 pub struct Summary {
     pub marks: u16,
     pub counts: [u16; Record::MOST_ALPHABET],
 }
 
 // A child's number, and what the measured words of the children before it add up to.
-#[derive(Drop)]
+#[derive(Clone, Copy)]
 pub struct Seat {
     pub k: usize,
     pub before: usize,

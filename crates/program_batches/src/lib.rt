@@ -13,7 +13,7 @@ use text_hex::{LINE_SIZE, Reading, read_line, write_line};
 use text_lines::{Gathered, first_bytes, gather};
 
 // The lines that have been read from a chunk, beside the output with their drafts and the commands of their frames.
-#[derive(Drop)]
+#[derive(Clone, Copy)]
 pub struct Batch {
     // how many bytes were taken from the chunk's front
     pub taken: usize,

@@ -13,7 +13,7 @@ use text_hex::{LINE_SIZE, write_line};
 use text_lines::{Gathered, first_bytes, gather};
 
 // How far a file has been read, beside the buffer that holds the first columns of its unfinished line.
-#[derive(Drop)]
+#[derive(Clone, Copy)]
 pub struct Progress {
     // the unfinished line
     pub line: Gathered,
@@ -22,7 +22,7 @@ pub struct Progress {
 }
 
 // What came of a chunk's bytes.
-#[derive(Drop)]
+#[derive(Clone, Copy)]
 pub struct FileTaken {
     // how many bytes were taken from the chunk's front
     pub taken: usize,

@@ -14,7 +14,7 @@ use text_hex::LINE_SIZE;
 use text_lines::{Gathered, LINE_FEED};
 
 // What came of a chunk's bytes.
-#[derive(Drop)]
+#[derive(Clone, Copy)]
 pub struct SessionTaken {
     // how many bytes were taken from the chunk's front
     pub taken: usize,

@@ -18,7 +18,7 @@ pub struct Command {
     pub number: u32,
 }
 
-#[derive(Drop)]
+#[derive(Clone, Copy)]
 pub struct Answer {
     pub status: u8,
     pub name: u8,

@@ -1,5 +1,5 @@
 -- How many blocks a tree has: a filled node has marks for one share more than it has blocks.
-use Prim.Native.Nat.{ℕ, zero, suc, ◌-◌, ◌*◌, ◌≤◌}
+use Prim.Native.Nat.{ℕ, zero, suc, ◌*◌, ◌≤◌}
 use native.Mathlib.Nat.{mul-le-mul_left, le_of_mul-le-mul_left, le_trans}
 use native.Mathlib.Omega.{arith}
 use lib.ListN.{length, length-append}

@@ -7,7 +7,7 @@ use crate::digit::value;
 use crate::write::LINE_DIGITS;
 
 // What a line holds: a frame's numbers, or it is no frame.
-#[derive(Drop)]
+#[derive(Clone, Copy)]
 pub enum Reading {
     Frame {
         code: u8,

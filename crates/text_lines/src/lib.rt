@@ -23,7 +23,7 @@ pub struct Gathered {
 }
 
 // What came of a chunk's bytes.
-#[derive(Drop)]
+#[derive(Clone, Copy)]
 pub struct Gathering {
     // how many bytes were taken from the front, the line feed among them
     pub taken: usize,

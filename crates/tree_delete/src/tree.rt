@@ -7,7 +7,7 @@ use pool_entries::{entry_count, link};
 use pool_holders::give_back;
 
 // The mark taken out, and the tree's root block and its level after that.
-#[derive(Drop)]
+#[derive(Clone, Copy)]
 pub struct Removed {
     pub mark: u8,
     pub level: usize,

@@ -5,7 +5,7 @@ use crate::insert::insert_in;
 use tree_splits::grow_root;
 
 // A tree's root block and its level.
-#[derive(Drop)]
+#[derive(Clone, Copy)]
 pub struct Rooted {
     pub level: usize,
     pub root: usize,

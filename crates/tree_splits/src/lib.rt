@@ -11,7 +11,7 @@ pub use leaves::insert_in_leaf;
 pub use root::grow_root;
 
 // What an edit of a block came to: whether it was split, and if so the new block, which stands behind it.
-#[derive(Drop)]
+#[derive(Clone, Copy)]
 pub struct Grown {
     pub split: bool,
     pub new: usize,

@@ -1,4 +1,3 @@
-use borrow.Author.Rules.{rules}
 use Rattle.pool_check.proofs.Walking.{branch-walked, no-children, child-refused, entry-refused, children-walked}
 use Rattle.pool_check.proofs.walk.+check_block_check_children.Goals as goal
 
