@@ -13,9 +13,6 @@ use Rattle.forfochry.proofs.mark.Met as MarkMet
 use Rattle.text_fixed_form.specs.Mark.{mark_of, first_that_fits, rules, card}
 use Rattle.forfochry.proofs.format.Met as FormatMet
 use Rattle.forfochry.proofs.run.Met as RunMet
-use Rattle.forfochry.proofs.forfochry_format.Met as HostFormatMet
-use Rattle.forfochry.proofs.forfochry_mark.Met as HostMarkMet
-use Rattle.forfochry.proofs.forfochry_run.Met as HostRunMet
 use Rattle.call_run.proofs.Outcomes.{length-cases, same_outcome}
 use Rattle.call_run.specs.Calls.{Formats, Ran}
 use Rattle.call_run.specs.Runs.{commands_in}
@@ -26,7 +23,7 @@ use Rattle.protocol.proofs.Respond.{refused-answers-zeros}
 use Rattle.protocol.specs.Frames.{bytes_of_answer}
 use Rattle.protocol.specs.Respond.{refused}
 use Rattle.demands.specs.Accepted.{Frame, frames_run}
-use Rattle.demands.specs.Demand1.{FormatTakesAll, RefusedCommand, AcceptedCall, RunTakesAll, MarkTakesAll, Demand1, Demand1Ends, Demand1Linked}
+use Rattle.demands.specs.Demand1.{FormatTakesAll, RefusedCommand, AcceptedCall, RunTakesAll, MarkTakesAll, Demand1, Demand1Ends}
 use Rattle.demands.proofs.AcceptedCalls.{
   answers,
   runs,
@@ -130,12 +127,4 @@ demand-1-ends =
       format = record { ends = λ M. FormatMet.met; asks = λ κs a w. refl; promises = λ κs a r s w. refl };
       run = record { ends = λ M. RunMet.met; asks = λ κs a w. refl; promises = λ κs a r s w. refl };
       mark = record { ends = λ M. MarkMet.met; asks = λ κs a w. refl; promises = λ κs a r s w. refl };
-    }
-
-pub demand-1-linked : Demand1Linked
-demand-1-linked =
-    record {
-      format = record { ends = λ M. HostFormatMet.met; asks = λ κs a w. refl; promises = λ κs a r s w. refl };
-      run = record { ends = λ M. HostRunMet.met; asks = λ κs a w. refl; promises = λ κs a r s w. refl };
-      mark = record { ends = λ M. HostMarkMet.met; asks = λ κs a w. refl; promises = λ κs a r s w. refl };
     }

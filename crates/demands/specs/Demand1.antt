@@ -18,16 +18,6 @@ use Rattle.forfochry.proofs.format.Statement as Format
 use Rattle.forfochry.specs.contracts.run as run
 use Rattle.forfochry.proofs.run.Reads as RunReads
 use Rattle.forfochry.proofs.run.Statement as Run
-use Rattle.forfochry.specs.contracts.forfochry_format as host_format
-use Rattle.forfochry.proofs.forfochry_format.Reads as HostFormatReads
-use Rattle.forfochry.proofs.forfochry_format.Statement as HostFormat
-use Rattle.forfochry.specs.contracts.forfochry_mark as host_mark
-use Rattle.forfochry.proofs.forfochry_mark.Reads as HostMarkReads
-use Rattle.forfochry.proofs.forfochry_mark.Statement as HostMark
-use Rattle.forfochry.specs.contracts.forfochry_run as host_run
-use Rattle.forfochry.proofs.forfochry_run.Reads as HostRunReads
-use Rattle.forfochry.proofs.forfochry_run.Statement as HostRun
-use Rattle.forfochry.specs.Numbers.{outcome_of}
 use Rattle.call_run.specs.Alike.{SameOutcome}
 use Rattle.call_tests.specs.Tests.{StatusOfCall}
 use Rattle.call_run.specs.Calls.{Formats, Ran}
@@ -110,12 +100,3 @@ pub record Demand1Ends : Type 2 where
       (λ κs a r s. Ran a.0.now a.1.0.now a.1.1.0.now r s.0.now s.1.1.0.now)
   pub mark : Keeps 1 (ArgsD mark.signature) (ResD mark.signature) (AtExit mark.ended) Mark.statement MarkReads.requires MarkReads.ensures
       (λ κs a r s. r ≡ mark_of a.0.now)
-
--- and the same as hosts link them
-pub record Demand1Linked : Type 2 where
-  pub format : Keeps 1 (ArgsD host_format.signature) (ResD host_format.signature) (AtExit host_format.ended) HostFormat.statement
-      HostFormatReads.requires HostFormatReads.ensures (λ κs a r s. Formats a.0.now r s.0.now)
-  pub run : Keeps 3 (ArgsD host_run.signature) (ResD host_run.signature) (AtExit host_run.ended) HostRun.statement HostRunReads.requires
-      HostRunReads.ensures (λ κs a r s. Ran a.0.now a.1.0.now a.1.1.0.now (outcome_of r) s.0.now s.1.1.0.now)
-  pub mark : Keeps 1 (ArgsD host_mark.signature) (ResD host_mark.signature) (AtExit host_mark.ended) HostMark.statement HostMarkReads.requires
-      HostMarkReads.ensures (λ κs a r s. r ≡ mark_of a.0.now)

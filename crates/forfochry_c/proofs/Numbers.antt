@@ -5,7 +5,7 @@ use Prim.Native.Nat.{ℕ, ◌+◌, ◌*◌, ◌/◌, ◌%◌, ◌^◌, ◌<◌}
 use native.Mathlib.Omega.{arith}
 use Rattle.call_run.specs.Calls.{Ran}
 use Rattle.call_tests.specs.declared.Outcome.{Outcome}
-use Rattle.forfochry.specs.Numbers.{outcome_of}
+use Rattle.forfochry_c.specs.Numbers.{outcome_of}
 
 pub halves_are : (o : Outcome) → o.count < 2 ^ 32 → outcome_of (o.status * 4294967296 + o.count) ≡ o
 halves_are o fits =
