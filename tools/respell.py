@@ -19,8 +19,7 @@ WORD = re.compile(r"(?<![\w'′₀-₉-])[a-z₀-₉0-9_'*+-]*[a-z0-9][A-Z][\w'�
 
 def snake(name):
     name = name.replace("getD", "get_or")
-    name = re.sub(r"(?<=[a-z0-9])([A-Z])", lambda m: "_" + m.group(1).lower(), name)
-    return re.sub(r"([A-Z])", lambda m: m.group(1).lower(), name)
+    return re.sub(r"(?<=[A-Za-z0-9])([A-Z])", lambda m: "_" + m.group(1), name).lower()
 
 
 def sources(*ends):

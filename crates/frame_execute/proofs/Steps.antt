@@ -49,7 +49,7 @@ use Rattle.frame_queries.proofs.Effects.{
 }
 use Rattle.frame_queries.specs.Accepted.{answer_of}
 use Rattle.sequence.specs.Definition1.{access}
-use Rattle.shape.specs.Sizes.{one_to_abyte}
+use Rattle.shape.specs.Sizes.{one_to_a_byte}
 use Rattle.shape.specs.Trees.{Tree, empty_t, insert_t, delete_t}
 use Rattle.frame_status.proofs.Codes.{listed-within}
 use Rattle.frame_status.proofs.Forms.{name_below}
@@ -221,7 +221,7 @@ module _ (p m : List ℕ) (c : Command) (ready : Ready p m) (status : status_in 
         ∙ sym (ap (λ (part : Part Tree). length (marks_of trees part)) insert-open.part) in
         update-steps q n a insert-open.low (ap is_change is) (told ∙ ap (λ k. value_to c (k + 1)) marks ∙ sym (ap (accepted c) effect))
         (subst (λ (e : Effect Tree). Updated c.name e.part p q n) (sym effect)
-        (subst (λ (part : Part Tree). Updated c.name (edited (insert_t one_to_abyte c.symbol c.number) part) p q n)
+        (subst (λ (part : Part Tree). Updated c.name (edited (insert_t one_to_a_byte c.symbol c.number) part) p q n)
         (sym (part-meaning p c.name insert-open.low))
         done))
 
@@ -267,7 +267,7 @@ module _ (p m : List ℕ) (c : Command) (ready : Ready p m) (status : status_in 
           (ap₂ {C = Answer} (λ x k. record { status = 0; name = c.name; symbol = x; depth = 0; value = k - 1 }) taken marks
           ∙ sym (ap (accepted c) effect))
           (subst (λ (e : Effect Tree). Updated c.name e.part p q n) (sym effect)
-          (subst (λ (part : Part Tree). Updated c.name (edited (delete_t one_to_abyte c.number) part) p q n)
+          (subst (λ (part : Part Tree). Updated c.name (edited (delete_t one_to_a_byte c.number) part) p q n)
           (sym (part-meaning p c.name delete-open.low))
           done.updated))
 

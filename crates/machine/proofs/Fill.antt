@@ -10,14 +10,14 @@ use Rattle.protocol.specs.State.{Part, State, closed, opened, fresh_state, part_
 use Rattle.protocol.specs.Valid.{Valid}
 use Rattle.protocol.specs.declared.Command.{Command}
 use Rattle.shape.proofs.Filled.{empty_t-filled, insert_t-filled, delete_t-filled}
-use Rattle.shape.proofs.Instances.{one_to_abyte-proper}
+use Rattle.shape.proofs.Instances.{one_to_a_byte-proper}
 use Rattle.shape.specs.Fill.{FilledT}
-use Rattle.shape.specs.Sizes.{one_to_abyte}
+use Rattle.shape.specs.Sizes.{one_to_a_byte}
 use Rattle.shape.specs.Trees.{Tree}
 use Rattle.machine.specs.Machine.{trees, FilledPart, FilledState}
 use Rattle.machine.proofs.Machine.{trees-are-faithful}
 
-edited-keeps-fill : (edit : Tree → Tree) (part : Part Tree) → ((tree : Tree) → FilledT one_to_abyte tree → FilledT one_to_abyte (edit tree))
+edited-keeps-fill : (edit : Tree → Tree) (part : Part Tree) → ((tree : Tree) → FilledT one_to_a_byte tree → FilledT one_to_a_byte (edit tree))
     → FilledPart part → FilledPart (edited edit part)
 edited-keeps-fill edit closed keeps filled = tt
 edited-keeps-fill edit (opened alphabet q tree) keeps filled = keeps tree filled
@@ -26,10 +26,10 @@ module _ (free : ℕ) (part : Part Tree) (c : Command) (filled : FilledPart part
   effect-keeps-fill : FilledPart ((row_for trees c).effect free part c).part
   unfolding rows
   effect-keeps-fill =
-      let insert = insert_t-filled one_to_abyte one_to_abyte-proper c.symbol c.number in
-      let delete = delete_t-filled one_to_abyte one_to_abyte-proper c.number in
+      let insert = insert_t-filled one_to_a_byte one_to_a_byte-proper c.symbol c.number in
+      let delete = delete_t-filled one_to_a_byte one_to_a_byte-proper c.number in
       by_row (λ code r. FilledPart (r.effect free part c).part) c.code (rows trees) (
-        empty_t-filled one_to_abyte one_to_abyte-proper,
+        empty_t-filled one_to_a_byte one_to_a_byte-proper,
         (
           tt,
           (

@@ -5,7 +5,7 @@ use Rattle.protocol.specs.State.{Store, Part, State, closed, opened, part_of, li
 use Rattle.protocol.specs.declared.Command.{Command}
 use Rattle.shape.specs.Fill.{FilledT}
 use Rattle.shape.specs.Paths.{depth_t}
-use Rattle.shape.specs.Sizes.{one_to_abyte}
+use Rattle.shape.specs.Sizes.{one_to_a_byte}
 use Rattle.shape.specs.Trees.{Tree, empty_t, marks_t, insert_t, delete_t}
 
 -- marks kept in a tree, one to a byte: the empty leaf at an opening, and a place as deep as the path to it is long
@@ -14,8 +14,8 @@ trees =
     record {
       empty = empty_t;
       marks = marks_t;
-      insert = insert_t one_to_abyte;
-      delete = delete_t one_to_abyte;
+      insert = insert_t one_to_a_byte;
+      delete = delete_t one_to_a_byte;
       depth = depth_t;
     }
 
@@ -27,7 +27,7 @@ pub record ImageOnLists (s : State Tree) (cs : List Command) : Type 0 where
 -- an open name's tree is filled; a closed one has none
 abbrev pub FilledPart : Part Tree → Type 0
 FilledPart closed = Unit {0}
-FilledPart (opened alphabet q tree) = FilledT one_to_abyte tree
+FilledPart (opened alphabet q tree) = FilledT one_to_a_byte tree
 
 -- every open name's tree is filled
 abbrev pub FilledState : State Tree → Type 0

@@ -11,7 +11,7 @@ use Rattle.sequence.proofs.Edits.{length-insert, length-delete, all_below-insert
 use Rattle.sequence.specs.Definition1.{count, insert, delete}
 use Rattle.sequence.proofs.Counts.{all-standing}
 use Rattle.shape.proofs.Marks.{insert_t-marks, delete_t-marks}
-use Rattle.shape.specs.Sizes.{one_to_abyte}
+use Rattle.shape.specs.Sizes.{one_to_a_byte}
 use Rattle.shape.specs.Trees.{marks_t, insert_t, delete_t}
 use Rattle.pool.proofs.SoundNames.{open-marks, open-readable}
 use Rattle.pool.proofs.Ways.{path-among}
@@ -47,7 +47,7 @@ module _ (p q m n : List ℕ) (name i c : ℕ) (at : InsertAt p m name i c) (g :
       all-standing (λ y. 1 ≤ count y (blocks_at p h b)) (path_at p h i b) x some (path-among p h i b (open-readable p name at.opened)) in
       omega arith) (eq-zero-or-pos (count x (path_at p h i b)))
 
-  insert-changed : TreeChanged name (insert_t one_to_abyte c i (tree_of p name)) g.level g.root p q m n
+  insert-changed : TreeChanged name (insert_t one_to_a_byte c i (tree_of p name)) g.level g.root p q m n
   insert-changed =
       record {
         tree = ins.tree;
@@ -59,9 +59,9 @@ module _ (p q m n : List ℕ) (name i c : ℕ) (at : InsertAt p m name i c) (g :
         each = entered-turns (holder_of name) m n ins.entered;
       }
 
-  insert-fits : MarksRecorded (record_of p name) (insert_t one_to_abyte c i (tree_of p name)) ((record_of p name).length + 1)
+  insert-fits : MarksRecorded (record_of p name) (insert_t one_to_a_byte c i (tree_of p name)) ((record_of p name).length + 1)
   insert-fits =
-      let marks : marks_t (insert_t one_to_abyte c i (tree_of p name)) ≡ insert c i (marks_t (tree_of p name)) = insert_t-marks one_to_abyte c i (tree_of p name) in
+      let marks : marks_t (insert_t one_to_a_byte c i (tree_of p name)) ≡ insert c i (marks_t (tree_of p name)) = insert_t-marks one_to_a_byte c i (tree_of p name) in
       record {
         alphabet = rw marks (all_below-insert (record_of p name).alphabet c i (marks_t (tree_of p name)) at.symbol (open-marks p name at.opened));
         many = omega (arith, at.opened.length, ap length marks, length-insert c i (marks_t (tree_of p name)));
@@ -76,7 +76,7 @@ freed-turns holder m n freed x = ⊎_elim (λ same. inl same) (λ zero. inr (inr
 
 module _ (p q m n : List ℕ) (name i : ℕ) (at : DeleteAt p m name i) (g : Removed)
     (del : TreeDeleted (record_of p name).height (record_of p name).root i g p q m n) where
-  delete-changed : TreeChanged name (delete_t one_to_abyte i (tree_of p name)) g.level g.root p q m n
+  delete-changed : TreeChanged name (delete_t one_to_a_byte i (tree_of p name)) g.level g.root p q m n
   delete-changed =
       record {
         tree = del.tree;
@@ -88,9 +88,9 @@ module _ (p q m n : List ℕ) (name i : ℕ) (at : DeleteAt p m name i) (g : Rem
         each = freed-turns (name + 1) m n del.freed;
       }
 
-  delete-fits : MarksRecorded (record_of p name) (delete_t one_to_abyte i (tree_of p name)) ((record_of p name).length - 1)
+  delete-fits : MarksRecorded (record_of p name) (delete_t one_to_a_byte i (tree_of p name)) ((record_of p name).length - 1)
   delete-fits =
-      let marks : marks_t (delete_t one_to_abyte i (tree_of p name)) ≡ delete i (marks_t (tree_of p name)) = delete_t-marks one_to_abyte i (tree_of p name) in
+      let marks : marks_t (delete_t one_to_a_byte i (tree_of p name)) ≡ delete i (marks_t (tree_of p name)) = delete_t-marks one_to_a_byte i (tree_of p name) in
       record {
         alphabet = rw marks (all_below-delete (record_of p name).alphabet i (marks_t (tree_of p name)) (open-marks p name at.opened));
         many = omega (arith, at.opened.length, ap length marks, length-delete i (marks_t (tree_of p name)) at.first (omega (arith, at.last, at.opened.length)));
@@ -118,7 +118,7 @@ module _ (p m : List ℕ) (name : ℕ) (old : Record) (is : old ≡ record_of p 
       pub inserted-at : (r : List ℕ) → PutRecord name (with_tree old g.level g.root (old.length + 1)) q r → InsertedAt name i c p r n
       inserted-at r put =
           tree-stored p q m n name at.within at.opened _ g.level g.root _
-          (insert-changed p q m n name i c at g inserted-in) (insert-fits p q m n name i c at g inserted-in) r (rw is at put) (insert_t one_to_abyte c i) refl
+          (insert-changed p q m n name i c at g inserted-in) (insert-fits p q m n name i c at g inserted-in) r (rw is at put) (insert_t one_to_a_byte c i) refl
 
   module _ (i : ℕ) (at : DeleteAt p m name i) where
     pub delete-in-ready : DeleteReady p m old.height old.root i
@@ -142,5 +142,5 @@ module _ (p m : List ℕ) (name : ℕ) (old : Record) (is : old ≡ record_of p 
             taken = deleted-in.taken;
             updated =
                 tree-stored p q m n name at.within at.opened _ g.level g.root _
-                (delete-changed p q m n name i at g deleted-in) (delete-fits p q m n name i at g deleted-in) r (rw is at put) (delete_t one_to_abyte i) refl;
+                (delete-changed p q m n name i at g deleted-in) (delete-fits p q m n name i at g deleted-in) r (rw is at put) (delete_t one_to_a_byte i) refl;
           }

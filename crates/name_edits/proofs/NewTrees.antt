@@ -17,7 +17,7 @@ use Rattle.sequence.specs.Definition1.{count}
 use Rattle.shape.proofs.Instances.{height-in-pool}
 use Rattle.shape.specs.Fill.{FilledT, root_least}
 use Rattle.shape.specs.Nested.{marks_in}
-use Rattle.shape.specs.Sizes.{one_to_abyte}
+use Rattle.shape.specs.Sizes.{one_to_a_byte}
 use Rattle.shape.specs.Trees.{Tree, marks_t}
 use Rattle.pool.proofs.SoundNames.{open_blocks}
 use Rattle.pool.proofs.SoundTrees.{sound-filled, sound-readable}
@@ -66,7 +66,7 @@ module _ (p q m n : List ℕ) (name : ℕ) (within : NameIn p m name) (old : Ope
   new-marks : marks ≡ marks_in level (shape_at q level root)
   new-marks = fit.many ∙ ap (λ (t : Tree). length (marks_t t)) (sym changed.tree)
 
-  new-filled : FilledT one_to_abyte (tree_at q level root)
+  new-filled : FilledT one_to_a_byte (tree_at q level root)
   new-filled = sound-filled q most_alphabet (root_least level) level root changed.block changed.below
 
   new-height : level ≤ most_height

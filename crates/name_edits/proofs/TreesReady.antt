@@ -6,7 +6,7 @@ use native.Mathlib.Omega.{arith}
 use Rattle.geometry.specs.Limits.{names, most_alphabet, marks_per_share, most_marks}
 use Rattle.lists.proofs.Sums.{sum_below-one}
 use Rattle.shape.specs.Blocks.{splits_t}
-use Rattle.shape.specs.Sizes.{one_to_abyte}
+use Rattle.shape.specs.Sizes.{one_to_a_byte}
 use Rattle.pool.proofs.SoundNames.{insert-room}
 use Rattle.pool.specs.Names.{record_of, tree_of}
 use Rattle.pool.specs.Shares.{promised_shares}
@@ -30,7 +30,7 @@ below-any p name opened =
 pub insert-ready : (p m : List ℕ) (name i c : ℕ) → InsertAt p m name i c → TreeReady p m (record_of p name).height (record_of p name).root i c (name + 1)
 insert-ready p m name i c at =
     let sound : Sound p = at.within.sound in
-    let room : splits_t one_to_abyte i (tree_of p name) ≤ free_in m =
+    let room : splits_t one_to_a_byte i (tree_of p name) ≤ free_in m =
     omega (arith, insert-room p sound name i at.within.low at.opened at.room, zeros-are-free p m at.within.map) in
     record {
       node =

@@ -26,11 +26,11 @@ use Rattle.shape.specs.Blocks.{blocks_t, splits_t}
 use Rattle.shape.specs.Fill.{FilledT, root_least}
 use Rattle.shape.specs.Depth.{DepthRule}
 use Rattle.shape.specs.Paths.{path, depth_t}
-use Rattle.shape.specs.Sizes.{one_to_abyte}
+use Rattle.shape.specs.Sizes.{one_to_a_byte}
 use Rattle.shape.specs.Trees.{Tree, marks_t, insert_t}
 use Rattle.shape.proofs.Choice.{by-leb}
 use Rattle.shape.proofs.Filled.{insert_t-filled}
-use Rattle.shape.proofs.Instances.{one_to_abyte-proper, blocks-in-shares, depth-keeps-rule}
+use Rattle.shape.proofs.Instances.{one_to_a_byte-proper, blocks-in-shares, depth-keeps-rule}
 use Rattle.shape.proofs.Marks.{insert_t-marks}
 use Rattle.shape.proofs.Splits.{insert_t-blocks}
 use Rattle.pool.specs.Bytes.{shares}
@@ -67,7 +67,7 @@ module _ (p : List ℕ) (name : ℕ) (open-name : OpenName p name) where
       ap (λ b. cond b [] (blocks_at p (record_of p name).height (record_of p name).root))
       (ne_eqb (record_of p name).kind kind_closed (λ (e : (record_of p name).kind ≡ kind_closed). omega (arith, open-name.entry.kind)))
 
-  pub open-filled : FilledT one_to_abyte (tree_of p name)
+  pub open-filled : FilledT one_to_a_byte (tree_of p name)
   open-filled = sound-filled p (record_of p name).alphabet (root_least (record_of p name).height) (record_of p name).height (record_of p name).root open-name.root open-name.below
 
   pub open-marks : AllBelow (record_of p name).alphabet (marks_t (tree_of p name))
@@ -129,14 +129,14 @@ module _ (p : List ℕ) (sound : Sound p) where
 
   -- an insert into a name that isn't full finds the blocks that it adds
   pub insert-room : (name i : ℕ) → name < names → OpenName p name → (record_of p name).length < marks_per_share * (record_of p name).q
-      → splits_t one_to_abyte i (tree_of p name) ≤ free_blocks p
+      → splits_t one_to_a_byte i (tree_of p name) ≤ free_blocks p
   insert-room name i low open-name room =
       let t : Tree = tree_of p name in
-      let filled : FilledT one_to_abyte t = open-filled p name open-name in
-      let more : length (marks_t (insert_t one_to_abyte 0 i t)) ≡ length (marks_t t) + 1 = ap length (insert_t-marks one_to_abyte 0 i t) ∙ length-insert 0 i (marks_t t) in
-      let within : blocks_t (insert_t one_to_abyte 0 i t) ≤ (record_of p name).q
-      = blocks-in-shares (insert_t one_to_abyte 0 i t) (insert_t-filled one_to_abyte one_to_abyte-proper 0 i t filled) (record_of p name).q open-name.entry.promise (omega (arith, open-name.length)) in
-      omega (arith, insert_t-blocks one_to_abyte one_to_abyte-proper 0 i t filled, open-length-blocks p name open-name, name-room name low)
+      let filled : FilledT one_to_a_byte t = open-filled p name open-name in
+      let more : length (marks_t (insert_t one_to_a_byte 0 i t)) ≡ length (marks_t t) + 1 = ap length (insert_t-marks one_to_a_byte 0 i t) ∙ length-insert 0 i (marks_t t) in
+      let within : blocks_t (insert_t one_to_a_byte 0 i t) ≤ (record_of p name).q
+      = blocks-in-shares (insert_t one_to_a_byte 0 i t) (insert_t-filled one_to_a_byte one_to_a_byte-proper 0 i t filled) (record_of p name).q open-name.entry.promise (omega (arith, open-name.length)) in
+      omega (arith, insert_t-blocks one_to_a_byte one_to_a_byte-proper 0 i t filled, open-length-blocks p name open-name, name-room name low)
 
   -- and so are the shares promised to none
   pub unpromised-free : unpromised_shares p ≤ free_blocks p

@@ -9,9 +9,9 @@ use Rattle.lists.proofs.Mapped.{all-mapped}
 use Rattle.lists.specs.Items.{AllBelow, All}
 use Rattle.shape.specs.Fill.{FilledFrom, Filled, root_least}
 use Rattle.shape.specs.Nested.{flat}
-use Rattle.shape.specs.Sizes.{one_to_abyte, least}
+use Rattle.shape.specs.Sizes.{one_to_a_byte, least}
 use Rattle.shape.proofs.Filled.{root-least}
-use Rattle.shape.proofs.Instances.{one_to_abyte-proper}
+use Rattle.shape.proofs.Instances.{one_to_a_byte-proper}
 use Rattle.pool.specs.Blocks.{entries, link, children}
 use Rattle.pool.specs.Bytes.{shares}
 use Rattle.pool.specs.Sound.{SoundBlock, SoundBelow}
@@ -23,16 +23,16 @@ use Rattle.pool.proofs.Trees.{length-shape}
 module _ (p : List ℕ) where
   module _ (alphabet : ℕ) where
     -- all children of a sound branch are what each sound tree of the level below is
-    sound-children : (Q : ℕ → Type 0) (h b : ℕ) → ((c : ℕ) → SoundBlock p (least one_to_abyte h) h c → SoundBelow p alphabet h c → Q c)
+    sound-children : (Q : ℕ → Type 0) (h b : ℕ) → ((c : ℕ) → SoundBlock p (least one_to_a_byte h) h c → SoundBelow p alphabet h c → Q c)
         → SoundBelow p alphabet (suc h) b → All Q (children p b)
     sound-children Q h b q s = all_from Q (link p b) 0 (entries p b)
         (λ k _ l. let child = s k (omega arith) in q (link p b k) child.0 child.1)
 
-    pub sound-filled : (fewest h b : ℕ) → SoundBlock p fewest h b → SoundBelow p alphabet h b → FilledFrom one_to_abyte fewest h (shape_at p h b)
+    pub sound-filled : (fewest h b : ℕ) → SoundBlock p fewest h b → SoundBelow p alphabet h b → FilledFrom one_to_a_byte fewest h (shape_at p h b)
     sound-filled fewest zero b block below = (omega (arith, length-leaf p b fewest block, block), tt)
     sound-filled fewest (suc h) b block below = (
       omega (arith, length-shape p h b, block),
-      all-mapped (Filled one_to_abyte h) (shape_at p h) (children p b) (sound-children (λ c. Filled one_to_abyte h (shape_at p h c)) h b (sound-filled (least one_to_abyte h) h) below),
+      all-mapped (Filled one_to_a_byte h) (shape_at p h) (children p b) (sound-children (λ c. Filled one_to_a_byte h (shape_at p h c)) h b (sound-filled (least one_to_a_byte h) h) below),
     )
 
     pub sound-marks : (h b : ℕ) → SoundBelow p alphabet h b → AllBelow alphabet (flat h (shape_at p h b))
@@ -46,7 +46,7 @@ module _ (p : List ℕ) where
     sound-readable fewest zero b low block below = block.fits
     sound-readable fewest (suc h) b low block below = (
       omega (arith, block),
-      λ k l. sound-readable (least one_to_abyte h) h (link p b k) (root-least one_to_abyte one_to_abyte-proper h) (below k l).0 (below k l).1,
+      λ k l. sound-readable (least one_to_a_byte h) h (link p b k) (root-least one_to_a_byte one_to_a_byte-proper h) (below k l).0 (below k l).1,
     )
 
     pub sound-inside : (fewest h b : ℕ) → SoundBlock p fewest h b → SoundBelow p alphabet h b → All (λ c. c < shares p) (blocks_at p h b)
@@ -54,5 +54,5 @@ module _ (p : List ℕ) where
     sound-inside fewest (suc h) b block below = (
       block.inside,
       all-joined (λ c. c < shares p) (blocks_at p h) (children p b)
-          (sound-children (λ c. All (λ d. d < shares p) (blocks_at p h c)) h b (sound-inside (least one_to_abyte h) h) below),
+          (sound-children (λ c. All (λ d. d < shares p) (blocks_at p h c)) h b (sound-inside (least one_to_a_byte h) h) below),
     )

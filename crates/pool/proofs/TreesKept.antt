@@ -17,7 +17,7 @@ use Rattle.lists.specs.Items.{All}
 use Rattle.lists.specs.Joins.{joined}
 use Rattle.sequence.specs.Definition1.{count}
 use Rattle.shape.specs.Nested.{flat, marks_in}
-use Rattle.shape.specs.Sizes.{one_to_abyte, least}
+use Rattle.shape.specs.Sizes.{one_to_a_byte, least}
 use Rattle.pool.specs.Blocks.{entries, leaf_marks, link, marks_below, count_below, children}
 use Rattle.pool.specs.Bytes.{byte, word, block_at}
 use Rattle.pool.specs.Changes.{SameBlock, Only}
@@ -111,7 +111,7 @@ module _ (p p' : List ℕ) (long : length p' ≡ length p) where
       = blocks-child p h b k inside (λ x. SameBlock x p p') s in
       let shape : shape_at p' h (link p' b k) ≡ shape_at p h c = ap (shape_at p' h) child ∙ shape-kept h c (r.1 k inside) kept in
       let told : Tells p h b k = (sound k inside).2 in (
-        rw child (same_block p p' c (blocks-root p (λ x. SameBlock x p p') h c kept) long (least one_to_abyte h) h (sound k inside).0),
+        rw child (same_block p p' c (blocks-root p (λ x. SameBlock x p p') h c kept) long (least one_to_a_byte h) h (sound k inside).0),
         rw child (below-kept alphabet h c (r.1 k inside) kept (sound k inside).1),
         record {
           marks = same-marks_below p p' b s.0 k few ∙ told.marks ∙ ap (marks_in h) (sym shape);

@@ -6,7 +6,7 @@ use Rattle.lists.specs.Items.{AllBelow}
 use Rattle.sequence.specs.Definition1.{count}
 use Rattle.shape.specs.Fill.{root_least}
 use Rattle.shape.specs.Nested.{flat, marks_in}
-use Rattle.shape.specs.Sizes.{one_to_abyte, least, most}
+use Rattle.shape.specs.Sizes.{one_to_a_byte, least, most}
 use Rattle.pool.specs.Blocks.{form_of, entries, leaf_marks, link, marks_below, count_below}
 use Rattle.pool.specs.Bytes.{byte, shares, record_at}
 use Rattle.pool.specs.Names.{record_of, held_blocks}
@@ -29,7 +29,7 @@ pub record SoundBlock (p : List ℕ) (fewest h b : ℕ) : Type 0 where
   pub inside : b < shares p
   pub form : form_of p b ≡ Layout.form_marks
   pub enough : fewest ≤ entries p b
-  pub fits : entries p b ≤ most one_to_abyte h
+  pub fits : entries p b ≤ most one_to_a_byte h
 
 -- entry k of a branch says how many marks stand below child k, and how many of them are each symbol
 pub record Tells (p : List ℕ) (h b k : ℕ) : Type 0 where
@@ -41,7 +41,7 @@ abbrev pub SoundBelow : List ℕ → ℕ → ℕ → ℕ → Type 0
 SoundBelow p alphabet zero b = AllBelow alphabet (leaf_marks p b)
 SoundBelow p alphabet (suc h) b =
     (k : ℕ) → k < entries p b
-    → SoundBlock p (least one_to_abyte h) h (link p b k) × SoundBelow p alphabet h (link p b k) × Tells p h b k
+    → SoundBlock p (least one_to_a_byte h) h (link p b k) × SoundBelow p alphabet h (link p b k) × Tells p h b k
 
 -- a closed name's record is zeros
 abbrev pub ClosedName : List ℕ → ℕ → Type 0

@@ -10,7 +10,7 @@ use Rattle.pool_entries.specs.Summaries.{Is}
 use Rattle.pool.specs.Blocks.{entries}
 use Rattle.pool.specs.Bytes.{byte, shares, block_at}
 use Rattle.pool.specs.Sound.{SoundBlock}
-use Rattle.shape.specs.Sizes.{one_to_abyte, most}
+use Rattle.shape.specs.Sizes.{one_to_a_byte, most}
 use Rattle.pool_check.specs.Walks.{Walked}
 use Rattle.pool_check.proofs.Deciding.{say-yes}
 use Rattle.pool_check.proofs.Walks.{walk_no}
@@ -29,7 +29,7 @@ module _ (p : List ℕ) (fewest h b tag : ℕ) (map after : List ℕ) where
     pub too_few : many < fewest → Walked false (SoundBlock p fewest h b) tag (b ∷ []) map after
     too_few few = walk_no tag (b ∷ []) map after (λ block new. omega (arith, block.enough, size.is))
 
-    module _ (top : ℕ) (limit : top ≡ most one_to_abyte h) where
+    module _ (top : ℕ) (limit : top ≡ most one_to_a_byte h) where
       pub too_many : top < many → Walked false (SoundBlock p fewest h b) tag (b ∷ []) map after
       too_many over = walk_no tag (b ∷ []) map after (λ block new. omega (arith, block.fits, size.is))
 

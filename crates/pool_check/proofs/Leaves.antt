@@ -13,7 +13,7 @@ use Rattle.pool_entries.specs.Summaries.{Is}
 use Rattle.geometry.specs.Layout.{most_leaf}
 use Rattle.pool.specs.Blocks.{entries, leaf_marks}
 use Rattle.pool.specs.Bytes.{byte, shares, block_at}
-use Rattle.shape.specs.Sizes.{one_to_abyte, most}
+use Rattle.shape.specs.Sizes.{one_to_a_byte, most}
 use Rattle.pool_check.specs.Parts.{MarksFit}
 use Rattle.pool_check.specs.Says.{Says}
 use Rattle.pool_check.proofs.Deciding.{say-yes, say-no}
@@ -63,5 +63,5 @@ module _ (p : List ℕ) (alphabet : ℕ) where
   leaf-fit zero b r leaf says = says
   leaf-fit (suc h) b r leaf says = absurd (omega arith)
 
-pub leaf-few : (p : List ℕ) (h b many : ℕ) → h ≡ 0 → Is (entries p b) many → entries p b ≤ most one_to_abyte h → many ≤ most_leaf
+pub leaf-few : (p : List ℕ) (h b many : ℕ) → h ≡ 0 → Is (entries p b) many → entries p b ≤ most one_to_a_byte h → many ≤ most_leaf
 leaf-few p h b many leaf size fits = omega (arith, size.is, most-leaf h leaf)

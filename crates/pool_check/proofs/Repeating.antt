@@ -16,14 +16,14 @@ use Rattle.geometry.specs.Layout.{least_branch, most_branch}
 use Rattle.geometry.specs.Limits.{most_alphabet}
 use Rattle.pool.specs.Blocks.{entries, marks_below, count_below}
 use Rattle.pool.specs.Trees.{own_marks, own_count}
-use Rattle.shape.specs.Sizes.{one_to_abyte, least, most}
+use Rattle.shape.specs.Sizes.{one_to_a_byte, least, most}
 use Rattle.pool_check.specs.Parts.{Repeats, Matches}
 use Rattle.pool_check.specs.Says.{Says}
 use Rattle.pool_entries.proofs.Levels.{least-branch}
 use Rattle.pool_check.proofs.Deciding.{say-no, say-same, say-equal}
 
 -- so many entries fit a branch
-pub few-children : (p : List ℕ) (h b many : ℕ) → Is (entries p b) many → entries p b ≤ most one_to_abyte h → (h ≡ 0 → ⊥) → many ≤ most_branch
+pub few-children : (p : List ℕ) (h b many : ℕ) → Is (entries p b) many → entries p b ≤ most one_to_a_byte h → (h ≡ 0 → ⊥) → many ≤ most_branch
 few-children p h b many size fits branch = omega (arith, size.is, branch-size p h b branch fits)
 
 -- a leaf
@@ -58,7 +58,7 @@ module _ (p : List ℕ) (b c many first second : ℕ) (size : many ≡ entries p
       sum_more of_c 2 (first + second) third sum-two three.is ∙ ap (λ (n : ℕ). sum_below n of_c) e
 
 -- a branch's least entries, at a level that the code tested
-pub branch-enough : (p : List ℕ) (h b : ℕ) → (h ≡ 0 → ⊥) → least one_to_abyte h ≤ entries p b → least_branch ≤ entries p b
+pub branch-enough : (p : List ℕ) (h b : ℕ) → (h ≡ 0 → ⊥) → least one_to_a_byte h ≤ entries p b → least_branch ≤ entries p b
 branch-enough p h b branch enough = omega (arith, least-branch h branch)
 
 -- the entry says what the block says, as to its marks and the symbols below c

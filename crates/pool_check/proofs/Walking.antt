@@ -17,7 +17,7 @@ use Rattle.pool.specs.Bytes.{shares}
 use Rattle.pool.specs.Sound.{SoundBlock, SoundBelow, Tells}
 use Rattle.pool.specs.Trees.{blocks_at}
 use Rattle.pool.proofs.Summaries.{tells-own, own-told}
-use Rattle.shape.specs.Sizes.{one_to_abyte, least}
+use Rattle.shape.specs.Sizes.{one_to_a_byte, least}
 use Rattle.pool_check.specs.Walks.{Walked}
 use Rattle.pool_check.specs.Parts.{MarksFit, SoundUnder, WalkedTree, SoundChildren, Matches}
 use Rattle.pool_check.specs.Says.{Says}
@@ -94,7 +94,7 @@ module _ (p : List ℕ) (alphabet tag : ℕ) where
 
   module _ (h b k : ℕ) where
     abbrev TreeWalked : Type 0
-    TreeWalked = WalkedTree p alphabet (least one_to_abyte h) h (link p b k)
+    TreeWalked = WalkedTree p alphabet (least one_to_a_byte h) h (link p b k)
 
     -- what its entry tells, and what a test of the entry shows
     abbrev Told : Type 0
@@ -118,12 +118,12 @@ module _ (p : List ℕ) (alphabet tag : ℕ) where
     tree-tells : TreeWalked → Shown → Told
     tree-tells tree shown = (
       shown.fit,
-      tells-own p alphabet (least one_to_abyte h) h b k tree.0 (below_of p alphabet h (link p b k) tree.1 shown.fit) shown.same.marks shown.same.counts,
+      tells-own p alphabet (least one_to_a_byte h) h b k tree.0 (below_of p alphabet h (link p b k) tree.1 shown.fit) shown.same.marks shown.same.counts,
     )
 
     tells-tree : TreeWalked → Told → Shown
     tells-tree tree told =
-        let own = own-told p alphabet (least one_to_abyte h) h b k tree.0 (below_of p alphabet h (link p b k) tree.1 told.0) told.1 in
+        let own = own-told p alphabet (least one_to_a_byte h) h b k tree.0 (below_of p alphabet h (link p b k) tree.1 told.0) told.1 in
         record { fit = told.0; same = record { marks = own.0; counts = own.1 } }
 
     module _ (map after : List ℕ) (r : Bool) (walked : Walked r TreeWalked tag (blocks_at p h (link p b k)) map after) where
@@ -152,7 +152,7 @@ module _ (p : List ℕ) (alphabet tag : ℕ) where
 
   -- the same as the code has it: the child's block and the least entries in locals, and so many children left, not 0
   module _ (h b k child fewest : ℕ) (map after : List ℕ) (r : Bool) (walked : Walked r (WalkedTree p alphabet fewest h child) tag (blocks_at p h child) map after) where
-    module _ (linked : Is (link p b k) child) (few : fewest ≡ least one_to_abyte h) where
+    module _ (linked : Is (link p b k) child) (few : fewest ≡ least one_to_a_byte h) where
       there : Walked r (TreeWalked h b k) tag (blocks_at p h (link p b k)) map after
       there = rw (linked.is, few) at walked
 

@@ -3,7 +3,7 @@ use Rattle.std.specs.Prelude.{Bool, true, List, ◌⊎◌, ◌≡◌, ℕ, zero,
 use Rattle.geometry.specs.Limits.{block_size, most_alphabet, most_shares}
 use Rattle.lists.specs.Items.{AllBelow}
 use Rattle.sequence.specs.Definition1.{count}
-use Rattle.shape.specs.Sizes.{one_to_abyte, least}
+use Rattle.shape.specs.Sizes.{one_to_a_byte, least}
 use Rattle.pool.specs.Blocks.{leaf_marks, link, marks_below, count_below}
 use Rattle.pool.specs.Bytes.{byte}
 use Rattle.pool.specs.Sound.{SoundBlock, SoundBelow, Tells, ClosedName, OpenName, Sound}
@@ -32,7 +32,7 @@ WalkedTree p alphabet fewest h b = SoundBlock p fewest h b × SoundUnder p alpha
 -- so many children of a branch in turn, from child k on: each at level h, with what its entry says of it
 abbrev pub SoundChildren : List ℕ → ℕ → ℕ → ℕ → ℕ → ℕ → Type 0
 SoundChildren p alphabet h b k left = (j : ℕ) → k ≤ j → j < k + left
-    → SoundBlock p (least one_to_abyte h) h (link p b j) × SoundBelow p alphabet h (link p b j) × Tells p h b j
+    → SoundBlock p (least one_to_a_byte h) h (link p b j) × SoundBelow p alphabet h (link p b j) × Tells p h b j
 
 -- entry k of a branch is the summary of the block `child`, by that block's own bytes
 pub record Repeats (p : List ℕ) (h b k child : ℕ) : Type 0 where

@@ -7,7 +7,7 @@ ghost use Rattle.pool.specs.Blocks.{entries, leaf_marks};
 ghost use Rattle.pool.specs.Bytes.{shares};
 ghost use Rattle.pool.specs.Sound.{SoundBlock};
 ghost use Rattle.shape.specs.Fill.{root_least};
-ghost use Rattle.shape.specs.Sizes.{one_to_abyte, most};
+ghost use Rattle.shape.specs.Sizes.{one_to_a_byte, most};
 ghost use Rattle.pool_check.specs.Walks.{Walked};
 ghost use Rattle.pool_check.specs.Parts.{MarksFit};
 ghost use Rattle.pool_check.specs.Says.{Says};
@@ -74,7 +74,7 @@ fn marks_below(pool: &[u8], b: usize, many: usize, alphabet: u8) -> bool
 
 // The same for a root, which is a leaf at level 0 alone.
 pub fn root_fits(pool: &[u8], level: usize, b: usize, alphabet: u8) -> bool
-    requires { (b < shares pool.now) × (entries pool.now b ≤ most one_to_abyte level) }
+    requires { (b < shares pool.now) × (entries pool.now b ≤ most one_to_a_byte level) }
     ensures { Says result (MarksFit pool.now alphabet level b) }
 {
     if level != 0 {

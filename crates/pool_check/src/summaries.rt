@@ -6,7 +6,7 @@ ghost use Rattle.lists.specs.Sums.{sum_below};
 ghost use Rattle.pool.specs.Blocks.{entries, leaf_marks, count_below};
 ghost use Rattle.pool.specs.Bytes.{shares};
 ghost use Rattle.pool.specs.Trees.{own_marks, own_count};
-ghost use Rattle.shape.specs.Sizes.{one_to_abyte, least, most};
+ghost use Rattle.shape.specs.Sizes.{one_to_a_byte, least, most};
 ghost use Rattle.pool_check.specs.Parts.{Repeats, Matches, Padded, Claim};
 ghost use Rattle.pool_check.specs.Says.{Says};
 
@@ -23,7 +23,7 @@ const NO_SYMBOL: u8 = 255;
 pub fn repeats(pool: &[u8], level: usize, b: usize, k: usize, child: usize, alphabet: u8) -> bool
     requires parent { (b < shares pool.now) × (k < most_branch) }
     requires child { (child < shares pool.now) × (alphabet ≤ most_alphabet) }
-    requires size { (least one_to_abyte level ≤ entries pool.now child) × (entries pool.now child ≤ most one_to_abyte level) }
+    requires size { (least one_to_a_byte level ≤ entries pool.now child) × (entries pool.now child ≤ most one_to_a_byte level) }
     ensures { Says result (Matches pool.now alphabet level b k child) }
 {
     if level == 0 {
@@ -138,7 +138,7 @@ fn branch_repeats(pool: &[u8], b: usize, k: usize, child: usize) -> bool
 
 // How many marks a block says it has.
 pub fn own_marks(pool: &[u8], level: usize, b: usize) -> usize
-    requires { (b < shares pool.now) × (entries pool.now b ≤ most one_to_abyte level) }
+    requires { (b < shares pool.now) × (entries pool.now b ≤ most one_to_a_byte level) }
     ensures { result ≡ own_marks pool.now level b }
 {
     let many = entry_count(pool, b);

@@ -3,7 +3,7 @@ use mathlib.Core.Path.{◌≡◌, refl, sym, subst}
 use Prim.Native.Nat.{ℕ, zero, suc, ◌-◌, ◌<◌}
 use native.Mathlib.Omega.{arith}
 use Rattle.geometry.specs.Layout.{least_leaf, most_leaf, least_branch, most_branch}
-use Rattle.shape.specs.Sizes.{one_to_abyte, least, most}
+use Rattle.shape.specs.Sizes.{one_to_a_byte, least, most}
 
 pub at_leaf : (P : ℕ → Type 0) (level : ℕ) → level ≡ 0 → P 0 → P level
 at_leaf P level leaf p = subst P (sym leaf) p
@@ -17,15 +17,15 @@ pub level-falls : (level t : ℕ) → level ≡ t → (level ≡ 0 → ⊥) → 
 level-falls level t is branch = at-branch (λ l d. l ≡ t → d < t) level branch (λ h e. omega arith) is
 
 -- a leaf
-pub least-leaf : (h : ℕ) → h ≡ 0 → least_leaf ≡ least one_to_abyte h
-least-leaf h leaf = at_leaf (λ l. least_leaf ≡ least one_to_abyte l) h leaf refl
+pub least-leaf : (h : ℕ) → h ≡ 0 → least_leaf ≡ least one_to_a_byte h
+least-leaf h leaf = at_leaf (λ l. least_leaf ≡ least one_to_a_byte l) h leaf refl
 
-pub most-leaf : (h : ℕ) → h ≡ 0 → most_leaf ≡ most one_to_abyte h
-most-leaf h leaf = at_leaf (λ l. most_leaf ≡ most one_to_abyte l) h leaf refl
+pub most-leaf : (h : ℕ) → h ≡ 0 → most_leaf ≡ most one_to_a_byte h
+most-leaf h leaf = at_leaf (λ l. most_leaf ≡ most one_to_a_byte l) h leaf refl
 
 -- a branch
-pub least-branch : (h : ℕ) → (h ≡ 0 → ⊥) → least_branch ≡ least one_to_abyte h
-least-branch h branch = at-branch (λ l d. least_branch ≡ least one_to_abyte l) h branch (λ d. refl)
+pub least-branch : (h : ℕ) → (h ≡ 0 → ⊥) → least_branch ≡ least one_to_a_byte h
+least-branch h branch = at-branch (λ l d. least_branch ≡ least one_to_a_byte l) h branch (λ d. refl)
 
-pub most-branch : (h : ℕ) → (h ≡ 0 → ⊥) → most_branch ≡ most one_to_abyte h
-most-branch h branch = at-branch (λ l d. most_branch ≡ most one_to_abyte l) h branch (λ d. refl)
+pub most-branch : (h : ℕ) → (h ≡ 0 → ⊥) → most_branch ≡ most one_to_a_byte h
+most-branch h branch = at-branch (λ l d. most_branch ≡ most one_to_a_byte l) h branch (λ d. refl)

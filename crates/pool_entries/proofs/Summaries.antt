@@ -15,7 +15,7 @@ use Rattle.pool.specs.Trees.{own_marks, own_count}
 use Rattle.pool.specs.Words.{word_limit}
 use Rattle.sequence.proofs.Counts.{count-take-le, count-le-length}
 use Rattle.sequence.specs.Definition1.{count}
-use Rattle.shape.specs.Sizes.{one_to_abyte, most}
+use Rattle.shape.specs.Sizes.{one_to_a_byte, most}
 use Rattle.pool_entries.specs.Summaries.{Is, words_at, SummaryOf, SmallSums}
 use Rattle.pool_entries.specs.declared.Summary.{Summary}
 use Rattle.pool_entries.proofs.Filling.{CountsFilled, fill-all}
@@ -80,7 +80,7 @@ leaf-small p b fits =
     }
 
 -- what is asked and told at a level that the code tested: of a leaf
-pub leaf-size : (p : List ℕ) (level b : ℕ) → level ≡ 0 → entries p b ≤ most one_to_abyte level → entries p b ≤ most_leaf
+pub leaf-size : (p : List ℕ) (level b : ℕ) → level ≡ 0 → entries p b ≤ most one_to_a_byte level → entries p b ≤ most_leaf
 leaf-size p zero b leaf fits = fits
 leaf-size p (suc h) b leaf fits = absurd (omega arith)
 
@@ -89,7 +89,7 @@ leaf-level p zero b r leaf s = s
 leaf-level p (suc h) b r leaf s = absurd (omega arith)
 
 -- and of a branch
-pub branch-size : (p : List ℕ) (level b : ℕ) → (level ≡ 0 → ⊥) → entries p b ≤ most one_to_abyte level → entries p b ≤ most_branch
+pub branch-size : (p : List ℕ) (level b : ℕ) → (level ≡ 0 → ⊥) → entries p b ≤ most one_to_a_byte level → entries p b ≤ most_branch
 branch-size p zero b branch fits = absurd (branch refl)
 branch-size p (suc h) b branch fits = fits
 

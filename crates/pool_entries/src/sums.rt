@@ -5,7 +5,7 @@ ghost use Rattle.geometry.specs.Layout.{most_leaf, most_branch, entry_size, word
 ghost use Rattle.lists.specs.Sums.{sum_below};
 ghost use Rattle.pool.specs.Blocks.{entries};
 ghost use Rattle.pool.specs.Bytes.{shares};
-ghost use Rattle.shape.specs.Sizes.{one_to_abyte, most};
+ghost use Rattle.shape.specs.Sizes.{one_to_a_byte, most};
 ghost use Rattle.pool_entries.specs.Summaries.{SummaryOf, SmallSums};
 
 use crate::Summary;
@@ -17,7 +17,7 @@ use sequence::count_in;
 
 // The summary of a block of a level.
 pub fn summary_of(pool: &[u8], level: usize, b: usize) -> Summary
-    requires { (b < shares pool.now) × (entries pool.now b ≤ most one_to_abyte level) × SmallSums pool.now level b }
+    requires { (b < shares pool.now) × (entries pool.now b ≤ most one_to_a_byte level) × SmallSums pool.now level b }
     ensures { SummaryOf pool.now level b result }
 {
     if level == 0 {

@@ -31,8 +31,8 @@ most s zero = s.leaf_most
 most s (suc h) = s.branch_most
 
 -- the sizes of a tree whose marks stand one to a byte
-abbrev pub one_to_abyte : Sizes
-one_to_abyte = record {
+abbrev pub one_to_a_byte : Sizes
+one_to_a_byte = record {
   leaf_least = least_leaf;
   leaf_most = most_leaf;
   branch_least = least_branch;
@@ -41,8 +41,8 @@ one_to_abyte = record {
 }
 
 -- the sizes of a tree whose marks stand two to a byte
-abbrev pub two_to_abyte : Sizes
-two_to_abyte = record {
+abbrev pub two_to_a_byte : Sizes
+two_to_a_byte = record {
   leaf_least = most_leaf;
   leaf_most = 2 * most_leaf - 1;
   branch_least = least_branch;

@@ -16,14 +16,14 @@ use Rattle.sequence.proofs.Counts.{is_mark-same}
 use Rattle.sequence.proofs.Edits.{length-delete, count-delete}
 use Rattle.sequence.specs.Definition1.{is_mark, count, access, delete}
 use Rattle.shape.proofs.Filled.{least-two}
-use Rattle.shape.proofs.Instances.{one_to_abyte-proper}
+use Rattle.shape.proofs.Instances.{one_to_a_byte-proper}
 use Rattle.shape.proofs.Marks.{delete_node-marks}
 use Rattle.shape.proofs.Steps.{delete_node-takes, access-takes}
 use Rattle.shape.specs.Fill.{Within}
 use Rattle.shape.specs.Level.{mend}
 use Rattle.shape.specs.Level.{mend}
 use Rattle.shape.specs.Nested.{Node, flat, marks_in}
-use Rattle.shape.specs.Sizes.{one_to_abyte, least, most}
+use Rattle.shape.specs.Sizes.{one_to_a_byte, least, most}
 use Rattle.shape.specs.Trees.{delete_node}
 use Rattle.pool.proofs.SoundTrees.{sound-marks}
 use Rattle.pool.specs.Blocks.{entries, link, marks_below}
@@ -97,24 +97,24 @@ module _ (p m : List ℕ) (h b i : ℕ) (ready : DeleteReady p m (suc h) b i) (s
 
     -- another child
     module _ (j : ℕ) (inside : j < entries p b) (other : j ≡ s.k → ⊥) where
-      sound : SoundPart p (least one_to_abyte h) h (link p b j)
+      sound : SoundPart p (least one_to_a_byte h) h (link p b j)
       sound = ((ready.below j inside).0, (ready.below j inside).1)
 
       apart : (y : ℕ) → 1 ≤ count y (blocks_at p h (link p b j)) → 1 ≤ count y (blocks_at p h child_of) → ⊥
       apart y one two =
           omega (arith, ready.agrees y, count-blocks p h b y, sum_below-two (entries p b) (λ k. count y (blocks_at p h (link p b k))) j s.k inside seated.inside other)
 
-      some : 1 ≤ least one_to_abyte h
-      some = omega (arith, least-two one_to_abyte one_to_abyte-proper h)
+      some : 1 ≤ least one_to_a_byte h
+      some = omega (arith, least-two one_to_a_byte one_to_a_byte-proper h)
 
       other-shape : shape_at q h (link q b j) ≡ shape_at p h (link p b j)
-      other-shape = ap (shape_at q h) (links j inside) ∙ part-shape p q only (least one_to_abyte h) h (link p b j) some sound apart
+      other-shape = ap (shape_at q h) (links j inside) ∙ part-shape p q only (least one_to_a_byte h) h (link p b j) some sound apart
 
       other-blocks : blocks_at q h (link q b j) ≡ blocks_at p h (link p b j)
-      other-blocks = ap (blocks_at q h) (links j inside) ∙ part-blocks p q only (least one_to_abyte h) h (link p b j) some sound apart
+      other-blocks = ap (blocks_at q h) (links j inside) ∙ part-blocks p q only (least one_to_a_byte h) h (link p b j) some sound apart
 
-      other-sound : SoundPart q (least one_to_abyte h) h (link q b j)
-      other-sound = rw (links j inside) (part_sound p q only (least one_to_abyte h) h (link p b j) some sound apart)
+      other-sound : SoundPart q (least one_to_a_byte h) h (link q b j)
+      other-sound = rw (links j inside) (part_sound p q only (least one_to_a_byte h) h (link p b j) some sound apart)
 
       other-tells : Tells q h b j
       other-tells =
@@ -140,7 +140,7 @@ module _ (p m : List ℕ) (h b i : ℕ) (ready : DeleteReady p m (suc h) b i) (s
 
     -- the marks of the child
     child-marks : flat h (shape_at q h child_of) ≡ delete (i - s.before) (flat h (shape_at p h child_of))
-    child-marks = ap (flat h) del.tree.shape ∙ delete_node-marks one_to_abyte h (i - s.before) (shape_at p h child_of)
+    child-marks = ap (flat h) del.tree.shape ∙ delete_node-marks one_to_a_byte h (i - s.before) (shape_at p h child_of)
 
     one_less : marks_in h (shape_at q h child_of) + 1 ≡ marks_in h (shape_at p h child_of)
     one_less =
@@ -170,7 +170,7 @@ module _ (p m : List ℕ) (h b i : ℕ) (ready : DeleteReady p m (suc h) b i) (s
           others = λ j l other. let inside : j < entries p b = omega (arith, many) in (other-sound j inside other, other-tells j inside other);
           child =
               rw here
-              (fewer q (entries p child_of - 1) (least one_to_abyte h - 1) h child_of (omega (arith, (ready.below s.k seated.inside).0.enough)) (del.tree.block, del.tree.below));
+              (fewer q (entries p child_of - 1) (least one_to_a_byte h - 1) h child_of (omega (arith, (ready.below s.k seated.inside).0.enough)) (del.tree.block, del.tree.below));
           symbol =
               rw del.taken
               (all_below-access most_alphabet xs (i - s.before) (sound-marks p most_alphabet h child_of (ready.below s.k seated.inside).1) within.enough within.fits);
@@ -186,7 +186,7 @@ module _ (p m : List ℕ) (h b i : ℕ) (ready : DeleteReady p m (suc h) b i) (s
         }
 
     -- the branch's shape, before it is mended
-    level-shape : shape_at q (suc h) b ≡ front ++ delete_node one_to_abyte h (i - s.before) (shape_at p h child_of) ∷ back
+    level-shape : shape_at q (suc h) b ≡ front ++ delete_node one_to_a_byte h (i - s.before) (shape_at p h child_of) ∷ back
     level-shape =
         let old : ℕ → Node h = λ j. shape_at p h (link p b j) in
         let new : ℕ → Node h = λ j. shape_at q h (link q b j) in
@@ -222,9 +222,9 @@ module _ (p m : List ℕ) (h b i : ℕ) (ready : DeleteReady p m (suc h) b i) (s
               record {
                 shape =
                     mended.shape
-                    ∙ ap (mend (least one_to_abyte h) (most one_to_abyte h)) level-shape
-                    ∙ ap (λ (k : ℕ). mend (least one_to_abyte h) (most one_to_abyte h) (front ++ delete_node one_to_abyte h (i - k) x ∷ back)) (sym before)
-                    ∙ sym (ap (delete_node one_to_abyte (suc h) i) around ∙ delete_node-takes one_to_abyte h i front x back takes);
+                    ∙ ap (mend (least one_to_a_byte h) (most one_to_a_byte h)) level-shape
+                    ∙ ap (λ (k : ℕ). mend (least one_to_a_byte h) (most one_to_a_byte h) (front ++ delete_node one_to_a_byte h (i - k) x ∷ back)) (sym before)
+                    ∙ sym (ap (delete_node one_to_a_byte (suc h) i) around ∙ delete_node-takes one_to_a_byte h i front x back takes);
                 block =
                     block-least (omega (arith, mended.block.enough, many)) mended.block;
                 below = mended.below;

@@ -7,8 +7,8 @@ use Rattle.geometry.specs.Limits.{most_alphabet}
 use Rattle.sequence.specs.Definition1.{count}
 use Rattle.sequence.proofs.Counts.{standing-all}
 use Rattle.shape.proofs.Filled.{root-least}
-use Rattle.shape.proofs.Instances.{one_to_abyte-proper}
-use Rattle.shape.specs.Sizes.{one_to_abyte, least}
+use Rattle.shape.proofs.Instances.{one_to_a_byte-proper}
+use Rattle.shape.specs.Sizes.{one_to_a_byte, least}
 use Rattle.pool.proofs.SoundTrees.{sound-readable}
 use Rattle.pool.proofs.Ways.{Readable}
 use Rattle.pool.specs.Blocks.{link}
@@ -23,7 +23,7 @@ part-readable : (p : List ℕ) (fewest h x : ℕ) → 1 ≤ fewest → SoundPart
 part-readable p fewest zero x some sound = sound.0.fits
 part-readable p fewest (suc h) x some sound = (
   omega (arith, sound.0),
-  λ k l. sound-readable p most_alphabet (least one_to_abyte h) h (link p x k) (root-least one_to_abyte one_to_abyte-proper h) (sound.1 k l).0 (sound.1 k l).1,
+  λ k l. sound-readable p most_alphabet (least one_to_a_byte h) h (link p x k) (root-least one_to_a_byte one_to_a_byte-proper h) (sound.1 k l).0 (sound.1 k l).1,
 )
 
 module _ {These : ℕ → Type 0} (p q : List ℕ) (only : Only These p q) (fewest h x : ℕ) (some : 1 ≤ fewest) (sound : SoundPart p fewest h x)

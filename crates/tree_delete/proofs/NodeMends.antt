@@ -16,7 +16,7 @@ use Rattle.sequence.proofs.Counts.{is_mark-same, count-additive}
 use Rattle.sequence.specs.Definition1.{is_mark, count}
 use Rattle.shape.proofs.Chop.{chop-fits, chop-halves}
 use Rattle.shape.specs.Level.{middle, halves, chop}
-use Rattle.shape.specs.Sizes.{one_to_abyte, most}
+use Rattle.shape.specs.Sizes.{one_to_a_byte, most}
 use Rattle.pool.specs.Blocks.{entries, leaf_marks}
 use Rattle.pool.specs.Changes.{Only}
 use Rattle.pool.specs.Trees.{shape_at, blocks_at}
@@ -212,33 +212,33 @@ module _ (p q : List ℕ) (h left right : ℕ) (two : TwoNodes p (suc h) left ri
 
 -- By level, as the code tests it.
 module _ (p : List ℕ) (left right : ℕ) where
-  pub leaves-fit : (level : ℕ) → level ≡ 0 → TwoNodes p level left right → entries p left + entries p right ≤ most one_to_abyte level
+  pub leaves-fit : (level : ℕ) → level ≡ 0 → TwoNodes p level left right → entries p left + entries p right ≤ most one_to_a_byte level
       → length (leaf_marks p left) + length (leaf_marks p right) ≤ most_leaf
   leaves-fit zero e two fit = omega (arith, sizes p p left right two)
   leaves-fit (suc h) e two fit = absurd (omega arith)
 
-  pub branches-fit : (level : ℕ) → (level ≡ 0 → ⊥) → TwoNodes p level left right → entries p left + entries p right ≤ most one_to_abyte level
+  pub branches-fit : (level : ℕ) → (level ≡ 0 → ⊥) → TwoNodes p level left right → entries p left + entries p right ≤ most one_to_a_byte level
       → entries p left + entries p right ≤ most_branch
   branches-fit zero some two fit = absurd (some refl)
   branches-fit (suc h) some two fit = fit
 
   module _ (q : List ℕ) where
-    pub joined-leaves : (level : ℕ) → level ≡ 0 → TwoNodes p level left right → entries p left + entries p right ≤ most one_to_abyte level
+    pub joined-leaves : (level : ℕ) → level ≡ 0 → TwoNodes p level left right → entries p left + entries p right ≤ most one_to_a_byte level
         → LeavesJoined left right p q → NodesJoined level left right p q
     joined-leaves zero e two fit join = leaves-join p q left right two fit join
     joined-leaves (suc h) e two fit join = absurd (omega arith)
 
-    pub joined-branches : (level : ℕ) → (level ≡ 0 → ⊥) → TwoNodes p level left right → entries p left + entries p right ≤ most one_to_abyte level
+    pub joined-branches : (level : ℕ) → (level ≡ 0 → ⊥) → TwoNodes p level left right → entries p left + entries p right ≤ most one_to_a_byte level
         → BranchesJoined left right p q → NodesJoined level left right p q
     joined-branches zero some two fit join = absurd (some refl)
     joined-branches (suc h) some two fit join = branches-join p q h left right two fit join
 
-    pub shared-leaves : (level : ℕ) → level ≡ 0 → TwoNodes p level left right → most one_to_abyte level < entries p left + entries p right
+    pub shared-leaves : (level : ℕ) → level ≡ 0 → TwoNodes p level left right → most one_to_a_byte level < entries p left + entries p right
         → LeavesShared left right p q → NodesShared level left right p q
     shared-leaves zero e two more share = leaves-share p q left right two more share
     shared-leaves (suc h) e two more share = absurd (omega arith)
 
-    pub shared-branches : (level : ℕ) → (level ≡ 0 → ⊥) → TwoNodes p level left right → most one_to_abyte level < entries p left + entries p right
+    pub shared-branches : (level : ℕ) → (level ≡ 0 → ⊥) → TwoNodes p level left right → most one_to_a_byte level < entries p left + entries p right
         → BranchesShared left right p q → NodesShared level left right p q
     shared-branches zero some two more share = absurd (some refl)
     shared-branches (suc h) some two more share = branches-share p q h left right two more share

@@ -18,7 +18,7 @@ use Rattle.sequence.specs.Definition1.{is_mark, count}
 use Rattle.shape.proofs.Chop.{chop-one-or-two}
 use Rattle.shape.specs.Level.{chop}
 use Rattle.shape.specs.Nested.{Node}
-use Rattle.shape.specs.Sizes.{one_to_abyte, most}
+use Rattle.shape.specs.Sizes.{one_to_a_byte, most}
 use Rattle.pool.specs.Blocks.{form_of, entries, link}
 use Rattle.pool.specs.Changes.{Only}
 use Rattle.pool.specs.Trees.{shape_at, blocks_at}
@@ -171,7 +171,7 @@ module _ (p m : List ℕ) (h b k : ℕ) (ready : PairReady p m h b k) where
         )
 
     -- how many entries there are
-    fresh-many : length fresh ≡ length (chop (most one_to_abyte h) (shape_at p h left_block ++ shape_at p h right_block))
+    fresh-many : length fresh ≡ length (chop (most one_to_a_byte h) (shape_at p h left_block ++ shape_at p h right_block))
     fresh-many = omega (arith, length-map fresh link_in, ap length links, length-map roots (shape_at q h), ap length mended.shapes)
 
     mended-many : entries r b ≡ k + (length fresh + (entries p b - suc (suc k)))
@@ -191,7 +191,7 @@ module _ (p m : List ℕ) (h b k : ℕ) (ready : PairReady p m h b k) where
     pub pair-mended : form_of q b ≡ form_marks → PairMended h b k p r m n
     pair-mended marks =
         let long : length r ≡ length p = changed.long in
-        let few = chop-one-or-two (most one_to_abyte h) (shape_at p h left_block ++ shape_at p h right_block) in
+        let few = chop-one-or-two (most one_to_a_byte h) (shape_at p h left_block ++ shape_at p h right_block) in
         record {
           shape = mended-shape;
           block =

@@ -15,7 +15,7 @@ use Rattle.sequence.specs.Definition1.{count}
 use Rattle.shape.proofs.Chop.{total-chop}
 use Rattle.shape.proofs.Nested.{flat_append}
 use Rattle.shape.specs.Nested.{Node, flat, marks_in}
-use Rattle.shape.specs.Sizes.{one_to_abyte, most}
+use Rattle.shape.specs.Sizes.{one_to_a_byte, most}
 use Rattle.pool.specs.Blocks.{form_of, entries, link}
 use Rattle.pool.specs.Changes.{SameBlock}
 use Rattle.pool.specs.Trees.{shape_at, blocks_at}
@@ -82,7 +82,7 @@ module _ (p m : List ℕ) (h b k left right : ℕ) (pair : PairOf p m h b k left
           arith,
           total-map (marks_in h) (shape_at q h) roots,
           ap (total (marks_in h)) mended.shapes,
-          total-chop (most one_to_abyte h) (shape_at p h left ++ shape_at p h right) (marks_in h) (marks-additive h),
+          total-chop (most one_to_a_byte h) (shape_at p h left ++ shape_at p h right) (marks_in h) (marks-additive h),
           marks-additive h (shape_at p h left) (shape_at p h right),
           ap (λ (x : ℕ). marks_in h (shape_at p h x)) pair.left_is,
           ap (λ (x : ℕ). marks_in h (shape_at p h x)) pair.right_is,

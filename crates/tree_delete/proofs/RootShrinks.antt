@@ -9,9 +9,9 @@ use Rattle.lists.specs.Froms.{from}
 use Rattle.lists.specs.Sums.{sum_below}
 use Rattle.sequence.specs.Definition1.{is_mark, count}
 use Rattle.shape.proofs.Filled.{root-least}
-use Rattle.shape.proofs.Instances.{one_to_abyte-proper}
+use Rattle.shape.proofs.Instances.{one_to_a_byte-proper}
 use Rattle.shape.specs.Nested.{Node}
-use Rattle.shape.specs.Sizes.{one_to_abyte}
+use Rattle.shape.specs.Sizes.{one_to_a_byte}
 use Rattle.shape.specs.Trees.{shrunk, delete_t}
 use Rattle.pool.specs.Blocks.{entries, link}
 use Rattle.pool.specs.Trees.{shape_at, blocks_at}
@@ -85,7 +85,7 @@ module _ (p m : List ℕ) (h b i r : ℕ) (q n : List ℕ) (del : Deleted (suc h
         record {
           taken = del.taken;
           tree = ap (shrunk (suc h)) (sym only_child ∙ del.tree.shape);
-          block = block-least (omega (arith, below.0.enough, root-least one_to_abyte one_to_abyte-proper h)) below.0;
+          block = block-least (omega (arith, below.0.enough, root-least one_to_a_byte one_to_a_byte-proper h)) below.0;
           below = below.1;
           blocks = λ x. omega (arith, del.tree.blocks x, blocks-left x, given-blocks b n o given held x);
           only = del.tree.only;

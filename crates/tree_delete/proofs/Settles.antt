@@ -14,10 +14,10 @@ use Rattle.lists.specs.Joins.{joined}
 use Rattle.sequence.proofs.Counts.{is_mark-same, is_mark-other, is_mark-cases}
 use Rattle.sequence.specs.Definition1.{count}
 use Rattle.shape.proofs.Filled.{least-two}
-use Rattle.shape.proofs.Instances.{one_to_abyte-proper}
+use Rattle.shape.proofs.Instances.{one_to_a_byte-proper}
 use Rattle.shape.specs.Level.{mend}
 use Rattle.shape.specs.Nested.{marks_in}
-use Rattle.shape.specs.Sizes.{one_to_abyte, least, most}
+use Rattle.shape.specs.Sizes.{one_to_a_byte, least, most}
 use Rattle.pool.specs.Blocks.{entries, link, marks_below, count_below, children}
 use Rattle.pool.specs.Changes.{Only}
 use Rattle.pool.specs.Trees.{shape_at, blocks_at}
@@ -34,8 +34,8 @@ use Rattle.tree_delete.proofs.KeptParts.{part-shape, part-blocks, part_sound}
 use Rattle.tree_delete.proofs.ShortChildren.{each_part}
 
 module _ (p m : List ℕ) (h b k c : ℕ) (ready : SettleReady p m h b k c) where
-  two : 2 ≤ least one_to_abyte h
-  two = least-two one_to_abyte one_to_abyte-proper h
+  two : 2 ≤ least one_to_a_byte h
+  two = least-two one_to_a_byte one_to_a_byte-proper h
 
   pub inside-branch : k < most_branch
   inside-branch = omega (arith, ready.place, ready.block.fits)
@@ -62,10 +62,10 @@ module _ (p m : List ℕ) (h b k c : ℕ) (ready : SettleReady p m h b k c) wher
     same-link j = ⊎_elim (λ w. rw w.0 put.link) (λ w. link_apart b k put.same j w.0) (is_mark-cases k j)
 
     kept : (j : ℕ) → j < entries p b → shape_at q h (link p b j) ≡ shape_at p h (link p b j)
-    kept j inside = part-shape p q only (least one_to_abyte h - 1) h (link p b j) (omega (arith, two)) (each_part p h b k ready.child ready.others j inside) (apart j inside)
+    kept j inside = part-shape p q only (least one_to_a_byte h - 1) h (link p b j) (omega (arith, two)) (each_part p h b k ready.child ready.others j inside) (apart j inside)
 
     kept-trees : (j : ℕ) → j < entries p b → blocks_at q h (link p b j) ≡ blocks_at p h (link p b j)
-    kept-trees j inside = part-blocks p q only (least one_to_abyte h - 1) h (link p b j) (omega (arith, two)) (each_part p h b k ready.child ready.others j inside) (apart j inside)
+    kept-trees j inside = part-blocks p q only (least one_to_a_byte h - 1) h (link p b j) (omega (arith, two)) (each_part p h b k ready.child ready.others j inside) (apart j inside)
 
     same-children : children q b ≡ children p b
     same-children = ap (from (link q b) 0) many ∙ from-same (link q b) (link p b) 0 (entries p b) (λ j _ _. same-link j)
@@ -91,10 +91,10 @@ module _ (p m : List ℕ) (h b k c : ℕ) (ready : SettleReady p m h b k c) wher
           others = λ j l other.
               let inside : j < entries p b = omega (arith, many) in
               let good = ready.others j inside other in (
-                rw (same-link j) (part_sound p q only (least one_to_abyte h) h (link p b j) (omega (arith, two)) good.0 (apart j inside)),
+                rw (same-link j) (part_sound p q only (least one_to_a_byte h) h (link p b j) (omega (arith, two)) good.0 (apart j inside)),
                 apart-tells p q h b k j put.same other (kept j inside) good.1,
               );
-          child = rw (same-link k) (part_sound p q only (least one_to_abyte h - 1) h (link p b k) (omega (arith, two)) ready.child (apart k ready.place));
+          child = rw (same-link k) (part_sound p q only (least one_to_a_byte h - 1) h (link p b k) (omega (arith, two)) ready.child (apart k ready.place));
           told =
               entry-tells q h b k (shape_at p h (link p b k)) (ap (shape_at q h) (same-link k) ∙ kept k ready.place) (put.marks ∙ omega (arith, ready.marks))
               (λ d inside.
@@ -108,7 +108,7 @@ module _ (p m : List ℕ) (h b k c : ℕ) (ready : SettleReady p m h b k c) wher
     unfolding count
     settled r n mended =
         record {
-          shape = mended.shape ∙ ap (mend (least one_to_abyte h) (most one_to_abyte h)) same_shape;
+          shape = mended.shape ∙ ap (mend (least one_to_a_byte h) (most one_to_a_byte h)) same_shape;
           block = block-least (omega (arith, mended.block.enough, many)) mended.block;
           below = mended.below;
           blocks = λ x. mended.blocks x ∙ ap (λ (bs : List ℕ). count x bs + is_free m x) same_blocks;

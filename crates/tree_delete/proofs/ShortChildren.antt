@@ -13,11 +13,11 @@ use Rattle.lists.specs.Froms.{from}
 use Rattle.lists.specs.Items.{All}
 use Rattle.sequence.proofs.Counts.{is_mark-cases}
 use Rattle.shape.proofs.Filled.{least-two}
-use Rattle.shape.proofs.Instances.{one_to_abyte-proper}
+use Rattle.shape.proofs.Instances.{one_to_a_byte-proper}
 use Rattle.shape.proofs.Mend.{mend-none, mend-first, mend-left}
 use Rattle.shape.specs.Level.{mend}
 use Rattle.shape.specs.Nested.{Node, marks_in}
-use Rattle.shape.specs.Sizes.{one_to_abyte, least, most}
+use Rattle.shape.specs.Sizes.{one_to_a_byte, least, most}
 use Rattle.pool.specs.Blocks.{entries, link}
 use Rattle.pool.specs.Sound.{SoundBlock, Tells}
 use Rattle.pool.specs.Trees.{shape_at}
@@ -41,11 +41,11 @@ pub fewer : (p : List ℕ) (many few h x : ℕ) → few ≤ many → SoundPart p
 fewer p many few h x low sound = (block-least (omega (arith, sound.0.enough)) sound.0, sound.1)
 
 -- every child of a branch of which one may be short
-pub each_part : (p : List ℕ) (h b k : ℕ) → SoundPart p (least one_to_abyte h - 1) h (link p b k)
+pub each_part : (p : List ℕ) (h b k : ℕ) → SoundPart p (least one_to_a_byte h - 1) h (link p b k)
     → ((j : ℕ) → j < entries p b → (j ≡ k → ⊥) → SoundChild p h (link p b j) × Tells p h b j)
-    → (j : ℕ) → j < entries p b → SoundPart p (least one_to_abyte h - 1) h (link p b j)
+    → (j : ℕ) → j < entries p b → SoundPart p (least one_to_a_byte h - 1) h (link p b j)
 each_part p h b k child others j inside =
-    ⊎_elim (λ w. rw w.0 child) (λ w. fewer p (least one_to_abyte h) (least one_to_abyte h - 1) h (link p b j) (omega arith) (others j inside w.0).0) (is_mark-cases k j)
+    ⊎_elim (λ w. rw w.0 child) (λ w. fewer p (least one_to_a_byte h) (least one_to_a_byte h - 1) h (link p b j) (omega arith) (others j inside w.0).0) (is_mark-cases k j)
 
 -- an entry that tells its child's marks is a true one
 tells-true : (p : List ℕ) (h b j : ℕ) → SoundChild p h (link p b j) × Tells p h b j → SoundChild p h (link_in (entry_bytes p b j)) × TrueEntry p h (entry_bytes p b j)
@@ -58,8 +58,8 @@ tells-true p h b j good = (
 )
 
 module _ (p m : List ℕ) (h b k : ℕ) (ready : ShortReady p m h b k) where
-  two : 2 ≤ least one_to_abyte h
-  two = least-two one_to_abyte one_to_abyte-proper h
+  two : 2 ≤ least one_to_a_byte h
+  two = least-two one_to_a_byte one_to_a_byte-proper h
 
   some_good : (j many : ℕ) → j + many ≤ entries p b → ((i : ℕ) → j ≤ i → i < j + many → i ≡ k → ⊥) → AllGood p h (from (entry_bytes p b) j many)
   some_good j many fits other =
@@ -72,7 +72,7 @@ module _ (p m : List ℕ) (h b k : ℕ) (ready : ShortReady p m h b k) where
   pair-ready j inside front back =
       let next : suc j ≡ j + 1 = omega arith in
       let left = each_part p h b k ready.child ready.others j (omega arith) in
-      let right : SoundPart p (least one_to_abyte h - 1) h (link p b (j + 1)) = each_part p h b k ready.child ready.others (j + 1) (omega arith) in
+      let right : SoundPart p (least one_to_a_byte h - 1) h (link p b (j + 1)) = each_part p h b k ready.child ready.others (j + 1) (omega arith) in
       let below : ℕ → ℕ = λ i. marks_in h (shape_at p h (link p b i)) in
       record {
         map = ready.map;
@@ -105,16 +105,16 @@ module _ (p m : List ℕ) (h b k : ℕ) (ready : ShortReady p m h b k) where
       ∙ ap₂ (λ (x y : Node h). take j s ++ x ∷ y ∷ drop (suc (suc j)) s) (child-shape p h b j (omega arith))
       (child-shape p h b (suc j) inside ∙ ap (λ (i : ℕ). shape_at p h (link p b i)) next)
 
-  long-enough : (j : ℕ) → j < entries p b → (j ≡ k → ⊥) → least one_to_abyte h ≤ length (shape_at p h (link p b j))
+  long-enough : (j : ℕ) → j < entries p b → (j ≡ k → ⊥) → least one_to_a_byte h ≤ length (shape_at p h (link p b j))
   long-enough j inside other =
       let good = (ready.others j inside other).0.0 in
       omega (arith, node-length p _ h (link p b j) good, good.enough)
 
-  short-length : entries p (link p b k) < least one_to_abyte h → length (shape_at p h (link p b k)) < least one_to_abyte h
+  short-length : entries p (link p b k) < least one_to_a_byte h → length (shape_at p h (link p b k)) < least one_to_a_byte h
   short-length less = omega (arith, node-length p _ h (link p b k) ready.child.0)
 
   -- nothing is to do
-  pub child-stays : least one_to_abyte h ≤ entries p (link p b k) → Mended h b p p m m
+  pub child-stays : least one_to_a_byte h ≤ entries p (link p b k) → Mended h b p p m m
   child-stays enough =
       let each : (j : ℕ) → j < entries p b → SoundChild p h (link p b j) × Tells p h b j
       = λ j inside.
@@ -123,9 +123,9 @@ module _ (p m : List ℕ) (h b k : ℕ) (ready : ShortReady p m h b k) where
       (λ w. ready.others j inside w.0) (is_mark-cases k j) in
       record {
         shape =
-            sym (mend-none (least one_to_abyte h) (most one_to_abyte h) (shape_at p (suc h) b)
-            (all-mapped (λ z. least one_to_abyte h ≤ length z) (shape_at p h) (from (link p b) 0 (entries p b))
-            (all_from (λ x. least one_to_abyte h ≤ length (shape_at p h x)) (link p b) 0 (entries p b)
+            sym (mend-none (least one_to_a_byte h) (most one_to_a_byte h) (shape_at p (suc h) b)
+            (all-mapped (λ z. least one_to_a_byte h ≤ length z) (shape_at p h) (from (link p b) 0 (entries p b))
+            (all_from (λ x. least one_to_a_byte h ≤ length (shape_at p h x)) (link p b) 0 (entries p b)
             (λ j l u. let good = (each j (omega arith)).0.0 in omega (arith, node-length p _ h (link p b j) good, good.enough)))));
         block = block-least (omega arith) ready.block;
         below = λ j inside. ((each j inside).0.0, (each j inside).0.1, (each j inside).1);
@@ -134,15 +134,15 @@ module _ (p m : List ℕ) (h b k : ℕ) (ready : ShortReady p m h b k) where
         freed = freed-none m;
       }
 
-  module _ (q n : List ℕ) (less : entries p (link p b k) < least one_to_abyte h) where
+  module _ (q n : List ℕ) (less : entries p (link p b k) < least one_to_a_byte h) where
     -- the first child is short
     pub mended-first : k ≡ 0 → PairMended h b 0 p q m n → Mended h b p q m n
     mended-first e mended =
         let s : Node (suc h) = shape_at p (suc h) b in
-        let short : length (shape_at p h (link p b 0)) < least one_to_abyte h = rw e at (short-length less) in
-        let is : mend (least one_to_abyte h) (most one_to_abyte h) s ≡ pair_shape p h b 0 =
-        ap (mend (least one_to_abyte h) (most one_to_abyte h)) (around 0 (omega (arith, ready.block.enough)))
-        ∙ mend-first (least one_to_abyte h) (most one_to_abyte h) (shape_at p h (link p b 0)) (shape_at p h (link p b (0 + 1))) (drop 2 s) short in
+        let short : length (shape_at p h (link p b 0)) < least one_to_a_byte h = rw e at (short-length less) in
+        let is : mend (least one_to_a_byte h) (most one_to_a_byte h) s ≡ pair_shape p h b 0 =
+        ap (mend (least one_to_a_byte h) (most one_to_a_byte h)) (around 0 (omega (arith, ready.block.enough)))
+        ∙ mend-first (least one_to_a_byte h) (most one_to_a_byte h) (shape_at p h (link p b 0)) (shape_at p h (link p b (0 + 1))) (drop 2 s) short in
         record { shape = mended.shape ∙ sym is; block = mended.block; below = mended.below; blocks = mended.blocks; only = mended.only; freed = mended.freed }
 
     -- a child with a left neighbour is short
@@ -152,14 +152,14 @@ module _ (p m : List ℕ) (h b k : ℕ) (ready : ShortReady p m h b k) where
         let j : ℕ = k - 1 in
         let next : j + 1 ≡ k = omega arith in
         let inside : suc j < entries p b = omega (arith, ready.place) in
-        let short : length (shape_at p h (link p b (j + 1))) < least one_to_abyte h = rw next (short-length less) in
-        let front : All (λ z. least one_to_abyte h ≤ length z) (take j s) =
+        let short : length (shape_at p h (link p b (j + 1))) < least one_to_a_byte h = rw next (short-length less) in
+        let front : All (λ z. least one_to_a_byte h ≤ length z) (take j s) =
         rw (shape-before p h b j (omega arith))
-        (all-mapped (λ z. least one_to_abyte h ≤ length z) (shape_at p h) (from (link p b) 0 j)
-        (all_from (λ x. least one_to_abyte h ≤ length (shape_at p h x)) (link p b) 0 j (λ i l u. long-enough i (omega arith) (λ (e : i ≡ k). omega arith)))) in
-        let is : mend (least one_to_abyte h) (most one_to_abyte h) s ≡ pair_shape p h b j =
-        ap (mend (least one_to_abyte h) (most one_to_abyte h)) (around j inside)
-        ∙ mend-left (least one_to_abyte h) (most one_to_abyte h) (take j s) (shape_at p h (link p b j)) (shape_at p h (link p b (j + 1))) (drop (suc (suc j)) s) front
+        (all-mapped (λ z. least one_to_a_byte h ≤ length z) (shape_at p h) (from (link p b) 0 j)
+        (all_from (λ x. least one_to_a_byte h ≤ length (shape_at p h x)) (link p b) 0 j (λ i l u. long-enough i (omega arith) (λ (e : i ≡ k). omega arith)))) in
+        let is : mend (least one_to_a_byte h) (most one_to_a_byte h) s ≡ pair_shape p h b j =
+        ap (mend (least one_to_a_byte h) (most one_to_a_byte h)) (around j inside)
+        ∙ mend-left (least one_to_a_byte h) (most one_to_a_byte h) (take j s) (shape_at p h (link p b j)) (shape_at p h (link p b (j + 1))) (drop (suc (suc j)) s) front
         (long-enough j (omega arith) (λ (e : j ≡ k). omega arith)) short in
         record { shape = mended.shape ∙ sym is; block = mended.block; below = mended.below; blocks = mended.blocks; only = mended.only; freed = mended.freed }
 
@@ -170,7 +170,7 @@ module _ (p m : List ℕ) (h b k : ℕ) (ready : ShortReady p m h b k) where
   left-ready some = pair-ready (k - 1) (omega (arith, ready.place)) (omega arith) (omega arith)
 
   -- the same by what the code reads: the child, its entries, and how many it has at least
-  module _ (child many few : ℕ) (at : Is (link p b k) child) (size : Is (entries p child) many) (lowest : few ≡ least one_to_abyte h) where
+  module _ (child many few : ℕ) (at : Is (link p b k) child) (size : Is (entries p child) many) (lowest : few ≡ least one_to_a_byte h) where
     counted : many ≡ entries p (link p b k)
     counted = size.is ∙ ap (entries p) at.is
 

@@ -7,7 +7,7 @@ use Rattle.lists.specs.Joins.{joined}
 use Rattle.sequence.specs.Definition1.{is_mark, count}
 use Rattle.shape.specs.Level.{chop, mend}
 use Rattle.shape.specs.Nested.{Node, flat, marks_in}
-use Rattle.shape.specs.Sizes.{one_to_abyte, least, most}
+use Rattle.shape.specs.Sizes.{one_to_a_byte, least, most}
 use Rattle.pool.specs.Blocks.{entries, link, marks_below, count_below}
 use Rattle.pool.specs.Changes.{Only}
 use Rattle.pool.specs.Sound.{SoundBlock, SoundBelow, Tells}
@@ -27,11 +27,11 @@ pub record TwoNodes (p : List ℕ) (h left right : ℕ) : Type 0 where
   pub first : SoundPart p 1 h left
   pub second : SoundPart p 1 h right
   pub apart : (x : ℕ) → count x (blocks_at p h left) + count x (blocks_at p h right) ≤ 1
-  pub enough : least one_to_abyte h ≤ entries p left + entries p right
+  pub enough : least one_to_a_byte h ≤ entries p left + entries p right
 
 -- the entries of two nodes are in these blocks now, and those blocks have left their trees
 pub record NodesMended (h left right : ℕ) (roots gone : List ℕ) (p q : List ℕ) : Type 0 where
-  pub shapes : map (shape_at q h) roots ≡ chop (most one_to_abyte h) (shape_at p h left ++ shape_at p h right)
+  pub shapes : map (shape_at q h) roots ≡ chop (most one_to_a_byte h) (shape_at p h left ++ shape_at p h right)
   pub sound : All (SoundChild q h) roots
   pub blocks : (x : ℕ) → count x (joined (blocks_at q h) roots) + count x gone ≡ count x (blocks_at p h left) + count x (blocks_at p h right)
   pub only : Only (λ x. (x ≡ left) ⊎ (x ≡ right)) p q
@@ -57,7 +57,7 @@ pub record PairReady (p m : List ℕ) (h b k : ℕ) : Type 0 where
   pub behind : AllGood p h (drop (suc (suc k)) (entry_list p b))
   pub left : SoundPart p 1 h (link p b k)
   pub right : SoundPart p 1 h (link p b (k + 1))
-  pub enough : least one_to_abyte h ≤ entries p (link p b k) + entries p (link p b (k + 1))
+  pub enough : least one_to_a_byte h ≤ entries p (link p b k) + entries p (link p b (k + 1))
   pub agrees : Agrees m (blocks_at p (suc h) b)
   pub short : marks_in h (shape_at p h (link p b k)) + marks_in h (shape_at p h (link p b (k + 1))) < word_limit
 
@@ -71,7 +71,7 @@ pub record PairOf (p m : List ℕ) (h b k left right : ℕ) : Type 0 where
 abbrev pub pair_shape : List ℕ → (h : ℕ) → ℕ → ℕ → Node (suc h)
 pair_shape p h b k =
     take k (shape_at p (suc h) b)
-    ++ (chop (most one_to_abyte h) (shape_at p h (link p b k) ++ shape_at p h (link p b (k + 1))) ++ drop (suc (suc k)) (shape_at p (suc h) b))
+    ++ (chop (most one_to_a_byte h) (shape_at p h (link p b k) ++ shape_at p h (link p b (k + 1))) ++ drop (suc (suc k)) (shape_at p (suc h) b))
 
 abbrev pub PairMended : ℕ → ℕ → ℕ → List ℕ → List ℕ → List ℕ → List ℕ → Type 0
 PairMended h b k p q m n = Becomes (suc h) b (pair_shape p h b k) p q m n
@@ -82,7 +82,7 @@ pub record ShortReady (p m : List ℕ) (h b k : ℕ) : Type 0 where
   pub block : SoundBlock p least_branch (suc h) b
   pub place : k < entries p b
   pub others : (j : ℕ) → j < entries p b → (j ≡ k → ⊥) → SoundChild p h (link p b j) × Tells p h b j
-  pub child : SoundPart p (least one_to_abyte h - 1) h (link p b k)
+  pub child : SoundPart p (least one_to_a_byte h - 1) h (link p b k)
   pub told : Tells p h b k
   pub agrees : Agrees m (blocks_at p (suc h) b)
   pub short : marks_in (suc h) (shape_at p (suc h) b) < word_limit
@@ -93,7 +93,7 @@ pub record SettleReady (p m : List ℕ) (h b k c : ℕ) : Type 0 where
   pub block : SoundBlock p least_branch (suc h) b
   pub place : k < entries p b
   pub others : (j : ℕ) → j < entries p b → (j ≡ k → ⊥) → SoundChild p h (link p b j) × Tells p h b j
-  pub child : SoundPart p (least one_to_abyte h - 1) h (link p b k)
+  pub child : SoundPart p (least one_to_a_byte h - 1) h (link p b k)
   pub symbol : c < most_alphabet
   pub marks : marks_below p b k ≡ marks_in h (shape_at p h (link p b k)) + 1
   pub counts : (d : ℕ) → d < most_alphabet → count_below p b k d ≡ is_mark d c + count d (flat h (shape_at p h (link p b k)))
@@ -102,4 +102,4 @@ pub record SettleReady (p m : List ℕ) (h b k c : ℕ) : Type 0 where
 
 -- the branch's children are mended as the shape function does
 abbrev pub Mended : ℕ → ℕ → List ℕ → List ℕ → List ℕ → List ℕ → Type 0
-Mended h b p q m n = Becomes (suc h) b (mend (least one_to_abyte h) (most one_to_abyte h) (shape_at p (suc h) b)) p q m n
+Mended h b p q m n = Becomes (suc h) b (mend (least one_to_a_byte h) (most one_to_a_byte h) (shape_at p (suc h) b)) p q m n

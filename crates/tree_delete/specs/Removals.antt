@@ -4,7 +4,7 @@ use Rattle.geometry.specs.Limits.{most_alphabet}
 use Rattle.sequence.specs.Definition1.{count, access}
 use Rattle.shape.specs.Fill.{root_least}
 use Rattle.shape.specs.Nested.{Node, flat, marks_in}
-use Rattle.shape.specs.Sizes.{one_to_abyte}
+use Rattle.shape.specs.Sizes.{one_to_a_byte}
 use Rattle.shape.specs.Trees.{delete_node}
 use Rattle.pool.specs.Blocks.{entries}
 use Rattle.pool.specs.Changes.{Only}
@@ -39,4 +39,4 @@ pub record Becomes (h b : ℕ) (x : Node h) (p q m n : List ℕ) : Type 0 where
 -- place i was taken out, and r is the mark that stood there
 pub record Deleted (h b i r : ℕ) (p q m n : List ℕ) : Type 0 where
   pub taken : r ≡ access (flat h (shape_at p h b)) i
-  pub tree : Becomes h b (delete_node one_to_abyte h i (shape_at p h b)) p q m n
+  pub tree : Becomes h b (delete_node one_to_a_byte h i (shape_at p h b)) p q m n

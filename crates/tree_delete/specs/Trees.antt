@@ -3,7 +3,7 @@ use Rattle.std.specs.Prelude.{◌≡◌, List, ℕ, ◌+◌, ◌≤◌}
 use Rattle.geometry.specs.Limits.{most_alphabet}
 use Rattle.sequence.specs.Definition1.{count, access}
 use Rattle.shape.specs.Fill.{root_least}
-use Rattle.shape.specs.Sizes.{one_to_abyte}
+use Rattle.shape.specs.Sizes.{one_to_a_byte}
 use Rattle.shape.specs.Trees.{marks_t, delete_t}
 use Rattle.pool.specs.Changes.{Only}
 use Rattle.pool.specs.Sound.{SoundBlock, SoundBelow}
@@ -15,7 +15,7 @@ use Rattle.tree_delete.specs.declared.tree.Removed.{Removed}
 pub record TreeDeleted (h b i : ℕ) (r : Removed) (p q m n : List ℕ) : Type 0 where
   -- the mark that stood there
   pub taken : r.mark ≡ access (marks_t (tree_at p h b)) i
-  pub tree : tree_at q r.level r.root ≡ delete_t one_to_abyte i (tree_at p h b)
+  pub tree : tree_at q r.level r.root ≡ delete_t one_to_a_byte i (tree_at p h b)
   pub block : SoundBlock q (root_least r.level) r.level r.root
   pub below : SoundBelow q most_alphabet r.level r.root
   -- a block that left the tree is free, and no other

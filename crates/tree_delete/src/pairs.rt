@@ -1,7 +1,7 @@
 // Two neighbours mended in their parent: joined if their entries fit one node, else shared out. The level is theirs, one below the
 // parent's.
 ghost use Rattle.std.specs.Prelude.{◌+◌, ◌≤◌, ◌<◌};
-ghost use Rattle.shape.specs.Sizes.{one_to_abyte, most};
+ghost use Rattle.shape.specs.Sizes.{one_to_a_byte, most};
 ghost use Rattle.pool.specs.Blocks.{entries};
 ghost use Rattle.tree_delete.specs.Mends.{PairReady, PairOf, PairMended};
 
@@ -35,7 +35,7 @@ fn join_pair(
     map: &mut [u8],
 )
     requires pair { PairOf pool.old map.old level b k left right }
-    requires fit { entries pool.old left + entries pool.old right ≤ most one_to_abyte level }
+    requires fit { entries pool.old left + entries pool.old right ≤ most one_to_a_byte level }
     ensures { PairMended level b k pool.old pool.new map.old map.new }
 {
     join_nodes(pool, level, left, right);
@@ -56,7 +56,7 @@ fn share_pair(
     map: &[u8],
 )
     requires pair { PairOf pool.old map.now level b k left right }
-    requires many { most one_to_abyte level < entries pool.old left + entries pool.old right }
+    requires many { most one_to_a_byte level < entries pool.old left + entries pool.old right }
     ensures { PairMended level b k pool.old pool.new map.now map.now }
 {
     share_nodes(pool, level, left, right);

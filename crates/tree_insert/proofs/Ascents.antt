@@ -15,13 +15,13 @@ use Rattle.lists.specs.Items.{All}
 use Rattle.lists.specs.Joins.{joined}
 use Rattle.sequence.proofs.Counts.{cond-le-one, count-additive}
 use Rattle.sequence.specs.Definition1.{is_mark, count}
-use Rattle.shape.proofs.Instances.{one_to_abyte-proper}
+use Rattle.shape.proofs.Instances.{one_to_a_byte-proper}
 use Rattle.shape.proofs.Splits.{insert_node-pieces}
 use Rattle.shape.proofs.Steps.{insert_node-takes}
 use Rattle.shape.specs.Blocks.{divides}
 use Rattle.shape.specs.Level.{chop}
 use Rattle.shape.specs.Nested.{Node}
-use Rattle.shape.specs.Sizes.{one_to_abyte}
+use Rattle.shape.specs.Sizes.{one_to_a_byte}
 use Rattle.shape.specs.Trees.{insert_node}
 use Rattle.pool.proofs.SoundTrees.{sound-filled}
 use Rattle.pool.specs.Blocks.{entries, link, marks_below}
@@ -107,7 +107,7 @@ module _ (p m : List ℕ) (h b i c holder : ℕ) (ready : InsertReady p m (suc h
   fresh-blocks : joined (blocks_in q h) up.fresh ≡ joined (blocks_at q h) (roots g (link p b s.k))
   fresh-blocks = sym (joined-map (blocks_at q h) link_in up.fresh) ∙ ap (joined (blocks_at q h)) up.links
 
-  fresh-shapes : map (shape_in q h) up.fresh ≡ insert_node one_to_abyte c h (i - s.before) (shape_at p h (link p b s.k))
+  fresh-shapes : map (shape_in q h) up.fresh ≡ insert_node one_to_a_byte c h (i - s.before) (shape_at p h (link p b s.k))
   fresh-shapes = sym (map-twice (shape_at q h) link_in up.fresh) ∙ ap (map (shape_at q h)) up.links ∙ ins.shapes
 
   -- all entries, by those before
@@ -148,7 +148,7 @@ module _ (p m : List ℕ) (h b i c holder : ℕ) (ready : InsertReady p m (suc h
       up.regrouped.only.others x (λ (change : 1 ≤ is_mark x b + (is_free l x - is_free n x)). omega (arith, conserved x, ready.agrees x)))
 
   all-shapes : map (shape_in q h) all
-      ≡ take s.k (shape_at p (suc h) b) ++ (insert_node one_to_abyte c h (i - s.before) (shape_at p h (link p b s.k)) ++ drop (suc s.k) (shape_at p (suc h) b))
+      ≡ take s.k (shape_at p (suc h) b) ++ (insert_node one_to_a_byte c h (i - s.before) (shape_at p h (link p b s.k)) ++ drop (suc s.k) (shape_at p (suc h) b))
   all-shapes =
       let f : List ℕ → Node h = shape_in q h in
       let front : List (List ℕ) = take s.k (entry_list p b) in
@@ -160,14 +160,14 @@ module _ (p m : List ℕ) (h b i c holder : ℕ) (ready : InsertReady p m (suc h
       ap (map f) all-is ∙ map-append f front (up.fresh ++ back)
       ∙ ap₂ (λ (x y : List (Node h)). x ++ y) left (map-append f up.fresh back ∙ ap₂ (λ (x y : List (Node h)). x ++ y) fresh-shapes right)
 
-  insert-above : insert_node one_to_abyte c (suc h) i (shape_at p (suc h) b) ≡ chop most_branch (map (shape_in q h) all)
+  insert-above : insert_node one_to_a_byte c (suc h) i (shape_at p (suc h) b) ≡ chop most_branch (map (shape_in q h) all)
   insert-above =
       let front : List (Node h) = take s.k (shape_at p (suc h) b) in
       let back : List (Node h) = drop (suc s.k) (shape_at p (suc h) b) in
       let x : Node h = shape_at p h (link p b s.k) in
-      ap (insert_node one_to_abyte c (suc h) i) (shape-around p h b s.k seated.inside)
-      ∙ insert_node-takes one_to_abyte h i front x back (child-takes p h b ready.below i s seated) c
-      ∙ ap (λ (k : ℕ). chop most_branch (front ++ (insert_node one_to_abyte c h (i - k) x ++ back))) (before-total p h b ready.below i s seated)
+      ap (insert_node one_to_a_byte c (suc h) i) (shape-around p h b s.k seated.inside)
+      ∙ insert_node-takes one_to_a_byte h i front x back (child-takes p h b ready.below i s seated) c
+      ∙ ap (λ (k : ℕ). chop most_branch (front ++ (insert_node one_to_a_byte c h (i - k) x ++ back))) (before-total p h b ready.below i s seated)
       ∙ ap (chop most_branch) (sym all-shapes)
 
   all-length : length all ≡ entries p b + cond g.split 1 0
@@ -188,18 +188,18 @@ module _ (p m : List ℕ) (h b i c holder : ℕ) (ready : InsertReady p m (suc h
         seated.inside,
       )
 
-  shapes-above : map (shape_at t (suc h)) (roots r b) ≡ insert_node one_to_abyte c (suc h) i (shape_at p (suc h) b)
+  shapes-above : map (shape_at t (suc h)) (roots r b) ≡ insert_node one_to_a_byte c (suc h) i (shape_at p (suc h) b)
   unfolding all
   shapes-above = regrouped-shapes h b holder r all q t l n up.regrouped kept-all ∙ sym insert-above
 
-  split-above : cond {A = ℕ} r.split 1 0 ≡ cond (divides one_to_abyte (suc h) i (shape_at p (suc h) b)) 1 0
+  split-above : cond {A = ℕ} r.split 1 0 ≡ cond (divides one_to_a_byte (suc h) i (shape_at p (suc h) b)) 1 0
   split-above =
       omega (
         arith,
         length-roots r b,
         length-map (roots r b) (shape_at t (suc h)),
         ap length shapes-above,
-        insert_node-pieces one_to_abyte one_to_abyte-proper c (suc h) 2 i (shape_at p (suc h) b) (omega arith) (sound-filled p most_alphabet 2 (suc h) b ready.block ready.below),
+        insert_node-pieces one_to_a_byte one_to_a_byte-proper c (suc h) 2 i (shape_at p (suc h) b) (omega arith) (sound-filled p most_alphabet 2 (suc h) b ready.block ready.below),
       )
 
   pub inserted_above : Inserted (suc h) b i c holder r p t m n

@@ -11,11 +11,11 @@ use Rattle.shape.proofs.Choice.{by-leb}
 use Rattle.shape.proofs.Steps.{splits-takes}
 use Rattle.shape.specs.Blocks.{divides, splits}
 use Rattle.shape.specs.Nested.{Node, marks_in}
-use Rattle.shape.specs.Sizes.{one_to_abyte}
+use Rattle.shape.specs.Sizes.{one_to_a_byte}
 use Rattle.pool.specs.Blocks.{entries, link, marks_below}
 use Rattle.pool.specs.Trees.{shape_at}
 use Rattle.tree_splits.proofs.ChosenChildren.{child-blocks, child-told, child-takes, before-total, child-short, child-root}
-use Rattle.shape.specs.Sizes.{one_to_abyte}
+use Rattle.shape.specs.Sizes.{one_to_a_byte}
 use Rattle.pool.specs.Trees.{shape_at}
 use Rattle.pool.proofs.Trees.{shape-around, told-all}
 use Rattle.tree_splits.specs.Inserts.{InsertReady}
@@ -36,13 +36,13 @@ module _ (p m : List ℕ) (h b i c holder : ℕ) (ready : InsertReady p m (suc h
       ap (λ (n : ℕ). sum_below n (marks_below p b)) (sym e) ∙ told-all p h b length length-append (marks_below p b) (child-told p h b ready.below) in
       omega (arith, ready.last, seated.sum, child-told p h b ready.below s.k seated.inside))
 
-  pub child-splits : splits one_to_abyte (suc h) i (shape_at p (suc h) b)
-      ≡ splits one_to_abyte h (i - s.before) (shape_at p h (link p b s.k)) + cond (divides one_to_abyte (suc h) i (shape_at p (suc h) b)) 1 0
+  pub child-splits : splits one_to_a_byte (suc h) i (shape_at p (suc h) b)
+      ≡ splits one_to_a_byte h (i - s.before) (shape_at p h (link p b s.k)) + cond (divides one_to_a_byte (suc h) i (shape_at p (suc h) b)) 1 0
   child-splits =
       let around = shape-around p h b s.k seated.inside in
-      ap (splits one_to_abyte (suc h) i) around
-      ∙ splits-takes one_to_abyte h i _ (shape_at p h (link p b s.k)) _ (child-takes p h b ready.below i s seated)
-      ∙ ap₂ (λ (n : ℕ) (x : Node (suc h)). splits one_to_abyte h (i - n) (shape_at p h (link p b s.k)) + cond (divides one_to_abyte (suc h) i x) 1 0) (before-total p h b ready.below i s seated) (sym around)
+      ap (splits one_to_a_byte (suc h) i) around
+      ∙ splits-takes one_to_a_byte h i _ (shape_at p h (link p b s.k)) _ (child-takes p h b ready.below i s seated)
+      ∙ ap₂ (λ (n : ℕ) (x : Node (suc h)). splits one_to_a_byte h (i - n) (shape_at p h (link p b s.k)) + cond (divides one_to_a_byte (suc h) i x) 1 0) (before-total p h b ready.below i s seated) (sym around)
 
   pub child-ready : InsertReady p m h (link p b s.k) (i - s.before) c holder
   child-ready =

@@ -16,14 +16,14 @@ use Rattle.lists.specs.Sums.{total}
 use Rattle.sequence.proofs.Counts.{is_mark-same, count-additive, all-standing}
 use Rattle.sequence.proofs.Edits.{length-insert, count-insert}
 use Rattle.sequence.specs.Definition1.{count, insert}
-use Rattle.shape.proofs.Instances.{one_to_abyte-proper}
+use Rattle.shape.proofs.Instances.{one_to_a_byte-proper}
 use Rattle.shape.proofs.Marks.{insert_node-marks}
 use Rattle.shape.proofs.Splits.{insert_node-pieces}
 use Rattle.shape.proofs.Steps.{divides-takes}
 use Rattle.shape.specs.Blocks.{divides}
 use Rattle.shape.specs.Fill.{root_least}
 use Rattle.shape.specs.Nested.{flat}
-use Rattle.shape.specs.Sizes.{one_to_abyte, least}
+use Rattle.shape.specs.Sizes.{one_to_a_byte, least}
 use Rattle.shape.specs.Trees.{insert_node}
 use Rattle.pool.proofs.SoundTrees.{sound-filled, sound-readable}
 use Rattle.pool.proofs.Ways.{path-among}
@@ -55,10 +55,10 @@ length-roots g b = go g.split
     go true = refl
     go false = refl
 
-least-after : (g : Grown) (h before : ℕ) → least one_to_abyte h ≤ before → least one_to_abyte h ≤ least_after g h before
+least-after : (g : Grown) (h before : ℕ) → least one_to_a_byte h ≤ before → least one_to_a_byte h ≤ least_after g h before
 least-after g h before low = go g.split
   where
-    go : (s : Bool) → least one_to_abyte h ≤ cond s (least one_to_abyte h) before
+    go : (s : Bool) → least one_to_a_byte h ≤ cond s (least one_to_a_byte h) before
     go true = omega arith
     go false = low
 
@@ -79,22 +79,22 @@ module _ (h b i c holder : ℕ) (g : Grown) (p q m n : List ℕ) (ready : Insert
   insert-total μ additive =
       sym (total-map (λ y. μ (flat h y)) (shape_at q h) (roots g b))
       ∙ ap (total (λ y. μ (flat h y))) ins.shapes
-      ∙ total-joined μ additive (flat h) (insert_node one_to_abyte c h i (shape_at p h b))
-      ∙ ap μ (insert_node-marks one_to_abyte c h i (shape_at p h b))
+      ∙ total-joined μ additive (flat h) (insert_node one_to_a_byte c h i (shape_at p h b))
+      ∙ ap μ (insert_node-marks one_to_a_byte c h i (shape_at p h b))
 
   -- the block was split where the shape function says so
-  pub insert-split : cond {A = ℕ} g.split 1 0 ≡ cond (divides one_to_abyte h i (shape_at p h b)) 1 0
+  pub insert-split : cond {A = ℕ} g.split 1 0 ≡ cond (divides one_to_a_byte h i (shape_at p h b)) 1 0
   insert-split =
       omega (
         arith,
         length-roots g b,
         length-map (roots g b) (shape_at q h),
         ap length ins.shapes,
-        insert_node-pieces one_to_abyte one_to_abyte-proper c h (root_least h) i (shape_at p h b) (omega arith) (sound-filled p most_alphabet (root_least h) h b ready.block ready.below),
+        insert_node-pieces one_to_a_byte one_to_a_byte-proper c h (root_least h) i (shape_at p h b) (omega arith) (sound-filled p most_alphabet (root_least h) h b ready.block ready.below),
       )
 
   -- each piece can be a child
-  pub insert-sound : least one_to_abyte h ≤ entries p b → All (SoundChild q h) (roots g b)
+  pub insert-sound : least one_to_a_byte h ≤ entries p b → All (SoundChild q h) (roots g b)
   insert-sound low =
       all_map (λ x. SoundBlock q (least_after g h (entries p b)) h x × SoundBelow q most_alphabet h x) (SoundChild q h)
       (λ x s.
@@ -123,12 +123,12 @@ module _ (p m : List ℕ) (h b i c holder : ℕ) (ready : InsertReady p m (suc h
     place-low : s.k < most_branch
     place-low = omega (arith, seated.inside, ready.block.fits)
 
-    pub divides-child : divides one_to_abyte (suc h) i (shape_at p (suc h) b)
-        ≡ (divides one_to_abyte h (i - s.before) (shape_at p h (link p b s.k)) && leb most_branch (entries p b))
+    pub divides-child : divides one_to_a_byte (suc h) i (shape_at p (suc h) b)
+        ≡ (divides one_to_a_byte h (i - s.before) (shape_at p h (link p b s.k)) && leb most_branch (entries p b))
     divides-child =
-        ap (divides one_to_abyte (suc h) i) (shape-around p h b s.k seated.inside)
-        ∙ divides-takes one_to_abyte h i _ (shape_at p h (link p b s.k)) _ (child-takes p h b ready.below i s seated)
-        ∙ ap₂ (λ (j k : ℕ). divides one_to_abyte h (i - j) (shape_at p h (link p b s.k)) && leb most_branch k) (before-total p h b ready.below i s seated)
+        ap (divides one_to_a_byte (suc h) i) (shape-around p h b s.k seated.inside)
+        ∙ divides-takes one_to_a_byte h i _ (shape_at p h (link p b s.k)) _ (child-takes p h b ready.below i s seated)
+        ∙ ap₂ (λ (j k : ℕ). divides one_to_a_byte h (i - j) (shape_at p h (link p b s.k)) && leb most_branch k) (before-total p h b ready.below i s seated)
         (ap length (sym (shape-around p h b s.k seated.inside)) ∙ length-shape p h b)
 
     pub take-up-ready : TakeUpReady q n h b s.k (link p b s.k) c holder g
@@ -155,12 +155,12 @@ module _ (p m : List ℕ) (h b i c holder : ℕ) (ready : InsertReady p m (suc h
               ∙ omega (arith, told.counts d inside, same-count_below p q b branch_same s.k d place-low inside);
           short = omega (arith, same-marks_below p q b branch_same s.k place-low, told.marks, child-short p h b ready.below i s seated, ready.short);
           room =
-              let one : cond {A = ℕ} (divides one_to_abyte (suc h) i (shape_at p (suc h) b)) 1 0 ≤ free_in n =
+              let one : cond {A = ℕ} (divides one_to_a_byte (suc h) i (shape_at p (suc h) b)) 1 0 ≤ free_in n =
               omega (arith, ready.room, child-splits p m h b i c holder ready s seated, ins.took) in
               omega (
                 arith,
                 many,
-                room-step g.split (divides one_to_abyte h (i - s.before) (shape_at p h (link p b s.k))) (entries p b) (free_in n) ready.block.fits
+                room-step g.split (divides one_to_a_byte h (i - s.before) (shape_at p h (link p b s.k))) (entries p b) (free_in n) ready.block.fits
                     (insert-split h (link p b s.k) (i - s.before) c holder g p q m n below ins) (rw divides-child at one),
               );
         }

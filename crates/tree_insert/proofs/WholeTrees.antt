@@ -14,7 +14,7 @@ use Rattle.sequence.proofs.Counts.{count-additive}
 use Rattle.sequence.specs.Definition1.{count}
 use Rattle.shape.specs.Blocks.{divides}
 use Rattle.shape.specs.Nested.{Node, flat}
-use Rattle.shape.specs.Sizes.{one_to_abyte, least}
+use Rattle.shape.specs.Sizes.{one_to_a_byte, least}
 use Rattle.shape.specs.Trees.{grown, insert_t}
 use Rattle.pool.specs.Blocks.{entries}
 use Rattle.pool.specs.Sound.{SoundBlock, SoundBelow}
@@ -36,7 +36,7 @@ module _ (p m : List ℕ) (h b i c holder : ℕ) (ready : TreeReady p m h b i c 
   module _ (whole : g.split ≡ false) where
     kept-sound : SoundBlock q (entries p b) h b × SoundBelow q most_alphabet h b
     kept-sound =
-        (subst (λ (s : Bool). All (λ x. SoundBlock q (cond s (least one_to_abyte h) (entries p b)) h x × SoundBelow q most_alphabet h x) (cond s (b ∷ g.new ∷ []) (b ∷ []))) whole ins.sound).0
+        (subst (λ (s : Bool). All (λ x. SoundBlock q (cond s (least one_to_a_byte h) (entries p b)) h x × SoundBelow q most_alphabet h x) (cond s (b ∷ g.new ∷ []) (b ∷ []))) whole ins.sound).0
 
     pub tree-kept : TreeInserted h b i c holder (record { level = h; root = b }) p q m l
     unfolding insert_t grown count
@@ -58,11 +58,11 @@ module _ (p m : List ℕ) (h b i c holder : ℕ) (ready : TreeReady p m h b i c 
         }
 
   module _ (parted : g.split ≡ true) where
-    halves-sound : All (λ x. SoundBlock q (least one_to_abyte h) h x × SoundBelow q most_alphabet h x) (b ∷ g.new ∷ [])
+    halves-sound : All (λ x. SoundBlock q (least one_to_a_byte h) h x × SoundBelow q most_alphabet h x) (b ∷ g.new ∷ [])
     halves-sound =
-        subst (λ (s : Bool). All (λ x. SoundBlock q (cond s (least one_to_abyte h) (entries p b)) h x × SoundBelow q most_alphabet h x) (cond s (b ∷ g.new ∷ []) (b ∷ []))) parted ins.sound
+        subst (λ (s : Bool). All (λ x. SoundBlock q (cond s (least one_to_a_byte h) (entries p b)) h x × SoundBelow q most_alphabet h x) (cond s (b ∷ g.new ∷ []) (b ∷ []))) parted ins.sound
 
-    one_more : cond {A = ℕ} (divides one_to_abyte h i (shape_at p h b)) 1 0 ≡ 1
+    one_more : cond {A = ℕ} (divides one_to_a_byte h i (shape_at p h b)) 1 0 ≡ 1
     one_more = sym (insert-split h b i c holder g p q m l ready.node ins) ∙ ap (λ (s : Bool). cond {A = ℕ} s 1 0) parted
 
     pub root-ready : RootReady q l h b g.new holder

@@ -5,7 +5,7 @@ use Rattle.geometry.specs.Limits.{most_alphabet}
 use Rattle.sequence.specs.Definition1.{count}
 use Rattle.shape.specs.Blocks.{splits_t}
 use Rattle.shape.specs.Fill.{root_least}
-use Rattle.shape.specs.Sizes.{one_to_abyte}
+use Rattle.shape.specs.Sizes.{one_to_a_byte}
 use Rattle.shape.specs.Trees.{insert_t}
 use Rattle.pool.specs.Changes.{Only}
 use Rattle.pool.specs.Sound.{SoundBlock, SoundBelow}
@@ -18,11 +18,11 @@ use Rattle.tree_insert.specs.declared.tree.Rooted.{Rooted}
 pub record TreeReady (p m : List ℕ) (h b i c holder : ℕ) : Type 0 where
   pub node : InsertReady p m h b i c holder
   pub height : h ≤ most_height
-  pub room : splits_t one_to_abyte i (tree_at p h b) ≤ free_in m
+  pub room : splits_t one_to_a_byte i (tree_at p h b) ≤ free_in m
 
 -- it was put in: p and m are the pool and the map before, q and n after
 pub record TreeInserted (h b i c holder : ℕ) (r : Rooted) (p q m n : List ℕ) : Type 0 where
-  pub tree : tree_at q r.level r.root ≡ insert_t one_to_abyte c i (tree_at p h b)
+  pub tree : tree_at q r.level r.root ≡ insert_t one_to_a_byte c i (tree_at p h b)
   pub block : SoundBlock q (root_least r.level) r.level r.root
   pub below : SoundBelow q most_alphabet r.level r.root
   -- its blocks are those that it had and those taken, which are no longer free
@@ -31,4 +31,4 @@ pub record TreeInserted (h b i c holder : ℕ) (r : Rooted) (p q m n : List ℕ)
   pub only : Only (λ x. 1 ≤ count x (path_at p h i b) + (is_free m x - is_free n x)) p q
   -- the map has the blocks taken, one for each node that split and one for a new root, and is otherwise as before
   pub entered : Entered holder m n
-  pub took : free_in m ≡ free_in n + splits_t one_to_abyte i (tree_at p h b)
+  pub took : free_in m ≡ free_in n + splits_t one_to_a_byte i (tree_at p h b)

@@ -6,9 +6,9 @@ use Rattle.pool.specs.Blocks.{link}
 use Rattle.pool.specs.Names.{record_of}
 use Rattle.pool.specs.Sound.{SoundBlock, SoundBelow, OpenName}
 use Rattle.shape.specs.Fill.{root_least}
-use Rattle.shape.specs.Sizes.{one_to_abyte, least}
+use Rattle.shape.specs.Sizes.{one_to_a_byte, least}
 use Rattle.shape.proofs.Filled.{root-least}
-use Rattle.shape.proofs.Instances.{one_to_abyte-proper}
+use Rattle.shape.proofs.Instances.{one_to_a_byte-proper}
 use Rattle.tree_query.specs.Good.{Good}
 
 module _ (p : List ℕ) where
@@ -21,7 +21,7 @@ module _ (p : List ℕ) where
   sound-good alphabet fewest (suc h) b low block below = (
     fewer (root_least (suc h)) fewest (suc h) b low block,
     λ k inside. (
-      sound-good alphabet (least one_to_abyte h) h (link p b k) (root-least one_to_abyte one_to_abyte-proper h) (below k inside).0 (below k inside).1,
+      sound-good alphabet (least one_to_a_byte h) h (link p b k) (root-least one_to_a_byte one_to_a_byte-proper h) (below k inside).0 (below k inside).1,
       (below k inside).2,
     ),
   )

@@ -9,11 +9,11 @@ use Rattle.lists.proofs.Sums.{sum_below-one}
 use Rattle.lists.specs.Sums.{total}
 use Rattle.sequence.specs.Definition1.{is_mark, count}
 use Rattle.shape.proofs.Filled.{root-least}
-use Rattle.shape.proofs.Instances.{one_to_abyte-proper}
+use Rattle.shape.proofs.Instances.{one_to_a_byte-proper}
 use Rattle.shape.specs.Fill.{root_least}
 use Rattle.shape.specs.Level.{Takes}
 use Rattle.shape.specs.Nested.{marks_in}
-use Rattle.shape.specs.Sizes.{one_to_abyte}
+use Rattle.shape.specs.Sizes.{one_to_a_byte}
 use Rattle.pool.specs.Blocks.{entries, link, marks_below}
 use Rattle.pool.specs.Sound.{SoundBlock, SoundBelow}
 use Rattle.pool.specs.Trees.{shape_at, blocks_at, path_at}
@@ -55,4 +55,4 @@ module _ (p : List ℕ) (h b : ℕ) (below : SoundBelow p most_alphabet (suc h) 
     pub child-root : SoundBlock p (root_least h) h (link p b s.k)
     child-root =
         let block = (below s.k seated.inside).0 in
-        block-least (omega (arith, block.enough, root-least one_to_abyte one_to_abyte-proper h)) block
+        block-least (omega (arith, block.enough, root-least one_to_a_byte one_to_a_byte-proper h)) block

@@ -12,9 +12,9 @@ use Rattle.lists.specs.Items.{All}
 use Rattle.lists.specs.Joins.{joined}
 use Rattle.sequence.specs.Definition1.{count}
 use Rattle.shape.proofs.Filled.{root-least}
-use Rattle.shape.proofs.Instances.{one_to_abyte-proper}
+use Rattle.shape.proofs.Instances.{one_to_a_byte-proper}
 use Rattle.shape.specs.Nested.{Node, flat, marks_in}
-use Rattle.shape.specs.Sizes.{one_to_abyte, least}
+use Rattle.shape.specs.Sizes.{one_to_a_byte, least}
 use Rattle.pool.proofs.SoundTrees.{sound-readable}
 use Rattle.pool.proofs.Ways.{Readable}
 use Rattle.pool.specs.Blocks.{entries, link}
@@ -76,7 +76,7 @@ module _ (p : List ℕ) (h b : ℕ) where
   blocks-entries = ap (λ (bs : List ℕ). b ∷ bs) (ap (joined (blocks_at p h)) (children-are p b) ∙ joined-map (blocks_at p h) link_in (entry_list p b))
 
 pub child-readable : (p : List ℕ) (h x : ℕ) → SoundChild p h x → Readable p h x
-child-readable p h x sound = sound-readable p most_alphabet (least one_to_abyte h) h x (root-least one_to_abyte one_to_abyte-proper h) sound.0 sound.1
+child-readable p h x sound = sound-readable p most_alphabet (least one_to_a_byte h) h x (root-least one_to_a_byte one_to_a_byte-proper h) sound.0 sound.1
 
 -- an entry whose child's tree keeps its bytes
 module _ (p q : List ℕ) (long : length q ≡ length p) (h : ℕ) (entry : List ℕ) (good : GoodEntry p h entry) (same : SameBlocks (blocks_in p h entry) p q) where
@@ -90,7 +90,7 @@ module _ (p q : List ℕ) (long : length q ≡ length p) (h : ℕ) (entry : List
   good-kept =
       record {
         sound = (
-          same_block p q (link_in entry) (blocks-root p (λ x. SameBlock x p q) h (link_in entry) same) long (least one_to_abyte h) h good.sound.0,
+          same_block p q (link_in entry) (blocks-root p (λ x. SameBlock x p q) h (link_in entry) same) long (least one_to_a_byte h) h good.sound.0,
           below-kept p q long most_alphabet h (link_in entry) (child-readable p h (link_in entry) good.sound) same good.sound.1,
         );
         true =

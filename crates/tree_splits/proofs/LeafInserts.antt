@@ -19,7 +19,7 @@ use Rattle.shape.proofs.Chop.{chop-fits}
 use Rattle.shape.proofs.Marks.{insert_node-marks}
 use Rattle.shape.specs.Blocks.{divides, splits}
 use Rattle.shape.specs.Paths.{path}
-use Rattle.shape.specs.Sizes.{one_to_abyte, most}
+use Rattle.shape.specs.Sizes.{one_to_a_byte, most}
 use Rattle.shape.specs.Trees.{insert_node}
 use Rattle.pool.specs.Blocks.{entries, leaf_marks}
 use Rattle.pool.specs.Bytes.{shares}
@@ -47,11 +47,11 @@ module _ (b i c holder : ℕ) (p m : List ℕ) (ready : InsertReady p m 0 b i c 
   ready-size = length-leaf p b 0 ready.block
 
   -- a full leaf splits, and there is a free block for it
-  leaf-splits : most_leaf ≤ length (leaf_marks p b) → splits one_to_abyte zero i (leaf_marks p b) ≡ 1
+  leaf-splits : most_leaf ≤ length (leaf_marks p b) → splits one_to_a_byte zero i (leaf_marks p b) ≡ 1
   unfolding splits divides
   leaf-splits full = cond-le most_leaf (length (leaf_marks p b)) 1 0 full
 
-  leaf-whole : length (leaf_marks p b) < most_leaf → splits one_to_abyte zero i (leaf_marks p b) ≡ 0
+  leaf-whole : length (leaf_marks p b) < most_leaf → splits one_to_a_byte zero i (leaf_marks p b) ≡ 0
   unfolding splits divides
   leaf-whole room = cond-lt most_leaf (length (leaf_marks p b)) 1 0 room
 
@@ -77,7 +77,7 @@ module _ (b i c holder : ℕ) (p m : List ℕ) (ready : InsertReady p m 0 b i c 
       record {
         shapes =
             ap (λ (x : List ℕ). x ∷ []) put.marks
-            ∙ sym (chop-fits (most one_to_abyte zero) (insert c i (leaf_marks p b)) (omega (arith, leaf_room many size room, length-insert c i (leaf_marks p b))));
+            ∙ sym (chop-fits (most one_to_a_byte zero) (insert c i (leaf_marks p b)) (omega (arith, leaf_room many size room, length-insert c i (leaf_marks p b))));
         sound = (
           (
             block_written ready.block put.only.long put.form put.many (omega arith) (omega (arith, size.is)),
@@ -106,7 +106,7 @@ module _ (b i c holder : ℕ) (p m : List ℕ) (ready : InsertReady p m 0 b i c 
     leaf-parted many size full q split =
         let named : 0 < holder = ready.named in
         let all : AllBelow most_alphabet (joined (λ x. x) (leaf_marks q b ∷ leaf_marks q new ∷ [])) =
-        subst (AllBelow most_alphabet) (sym (ap (joined (λ x. x)) split.marks ∙ insert_node-marks one_to_abyte c zero i (leaf_marks p b)))
+        subst (AllBelow most_alphabet) (sym (ap (joined (λ x. x)) split.marks ∙ insert_node-marks one_to_a_byte c zero i (leaf_marks p b)))
         (all_below-insert most_alphabet c i (leaf_marks p b) ready.symbol ready.below) in
         let halves = both_below most_alphabet (leaf_marks q b) (leaf_marks q new) all in
         record {

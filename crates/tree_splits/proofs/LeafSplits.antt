@@ -8,8 +8,8 @@ use lib.ListN.{length}
 use Rattle.geometry.specs.Layout.{least_leaf, most_leaf}
 use Rattle.sequence.specs.Definition1.{insert}
 use Rattle.shape.proofs.Cut.{full-leaf-low, full-leaf-high}
-use Rattle.shape.proofs.Instances.{one_to_abyte-proper}
-use Rattle.shape.specs.Sizes.{one_to_abyte}
+use Rattle.shape.proofs.Instances.{one_to_a_byte-proper}
+use Rattle.shape.specs.Sizes.{one_to_a_byte}
 use Rattle.pool.specs.Blocks.{entries, leaf_marks}
 use Rattle.pool.specs.Bytes.{shares}
 use Rattle.pool.specs.Changes.{SameBlock}
@@ -57,7 +57,7 @@ module _ (b new i c : ℕ) (p q : List ℕ) (leaf : LeafAt p b) (full : length (
           marks =
               ap₂ (λ (x y : List ℕ). x ∷ y ∷ []) (put.marks ∙ ap (insert c i) cut.marks)
               (same-leaf q r new same put.only.long (omega arith) ∙ cut.new_marks)
-              ∙ sym (full-leaf-low one_to_abyte one_to_abyte-proper c i (leaf_marks p b) full one low);
+              ∙ sym (full-leaf-low one_to_a_byte one_to_a_byte-proper c i (leaf_marks p b) full one low);
           form = put.form ∙ cut.form;
           many = omega (arith, put.many, cut.many);
           new_form = same_byte q r new same _ (omega arith) (omega arith) ∙ cut.new_form;
@@ -72,7 +72,7 @@ module _ (b new i c : ℕ) (p q : List ℕ) (leaf : LeafAt p b) (full : length (
           marks =
               ap₂ (λ (x y : List ℕ). x ∷ y ∷ []) (same-leaf q r b same put.only.long (omega (arith, cut.many)) ∙ cut.marks)
               (put.marks ∙ ap (insert c (i - least_leaf)) cut.new_marks)
-              ∙ sym (full-leaf-high one_to_abyte one_to_abyte-proper c i (leaf_marks p b) full high);
+              ∙ sym (full-leaf-high one_to_a_byte one_to_a_byte-proper c i (leaf_marks p b) full high);
           form = same_byte q r b same _ (omega arith) (omega arith) ∙ cut.form;
           many = same_entries q r b same ∙ cut.many;
           new_form = put.form ∙ cut.new_form;

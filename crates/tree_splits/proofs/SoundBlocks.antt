@@ -6,7 +6,7 @@ use Prim.Native.Nat.{ℕ, ◌≤◌}
 use native.Mathlib.Omega.{arith}
 use lib.ListN.{length}
 use Rattle.geometry.specs.Layout.{most_leaf, most_branch}
-use Rattle.shape.specs.Sizes.{one_to_abyte, most}
+use Rattle.shape.specs.Sizes.{one_to_a_byte, most}
 use Rattle.pool.specs.Blocks.{form_of, entries}
 use Rattle.pool.specs.Sound.{SoundBlock}
 use Rattle.pool_blocks.specs.Contents.{LeafAt, BranchAt}
@@ -18,7 +18,7 @@ block-least enough block = record { inside = block.inside; form = block.form; en
 
 -- it has so many entries now, and its form is as before
 pub block_written : {p q : List ℕ} {few fewest h b many : ℕ} → SoundBlock p few h b → length q ≡ length p → form_of q b ≡ form_of p b → entries q b ≡ many
-    → fewest ≤ many → many ≤ most one_to_abyte h → SoundBlock q fewest h b
+    → fewest ≤ many → many ≤ most one_to_a_byte h → SoundBlock q fewest h b
 block_written block long form size enough fits =
     record { inside = omega (arith, block.inside, long); form = form ∙ block.form; enough = omega (arith, size, enough); fits = omega (arith, size, fits) }
 

@@ -3,7 +3,7 @@ use Rattle.std.specs.Prelude.{◌≡◌, List, ◌∷◌, ◌++◌, ℕ, ◌<◌
 use Rattle.geometry.specs.Limits.{most_alphabet}
 use Rattle.sequence.specs.Definition1.{count}
 use Rattle.shape.specs.Nested.{flat, marks_in}
-use Rattle.shape.specs.Sizes.{one_to_abyte, least}
+use Rattle.shape.specs.Sizes.{one_to_a_byte, least}
 use Rattle.pool.specs.Sound.{SoundBlock, SoundBelow}
 use Rattle.pool.specs.Trees.{shape_at}
 use Rattle.pool_blocks.specs.Contents.{link_in, below_in, count_in}
@@ -26,4 +26,4 @@ pub record TrueEntry (p : List ℕ) (h : ℕ) (entry : List ℕ) : Type 0 where
 
 -- a block of level h that is no root, with all below it, is sound
 abbrev pub SoundChild : List ℕ → ℕ → ℕ → Type 0
-SoundChild p h x = SoundBlock p (least one_to_abyte h) h x × SoundBelow p most_alphabet h x
+SoundChild p h x = SoundBlock p (least one_to_a_byte h) h x × SoundBelow p most_alphabet h x
