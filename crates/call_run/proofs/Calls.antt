@@ -70,3 +70,7 @@ module _ (p commands room map : List ℕ) (status : ℕ) (judged : Judged p comm
           refused = λ some. absurd (some refl);
           accepted = λ _. run;
         }
+
+-- `call_run::run` meets its contract by these: where a test refused the call nothing was touched; else the frames run with the part of the map
+-- that the pool's shares need.
+pub ruleset call_laws = (call-refused, directory-inside, shares-inside, part-long, count_fits, frames-ready, call-done)

@@ -24,6 +24,7 @@ pub fn format(pool: &mut [u8]) -> u32
 }
 
 // Runs the command frames in order and writes one answer each, or refuses the call and changes nothing.
+#[tactic(auto, using(crate::proofs::Calls::call_laws))]
 pub fn run(pool: &mut [u8], commands: &[u8], answers: &mut [u8]) -> Outcome
     ensures { Ran pool.old commands.now answers.old result pool.new answers.new }
 {
