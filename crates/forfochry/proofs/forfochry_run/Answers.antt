@@ -1,6 +1,0 @@
--- `forfochry::forfochry_run` meets its contract: what `run` promises of its outcome holds of the number made of it.
-use Rattle.forfochry.proofs.Numbers.{ran-as-number}
-use Rattle.forfochry.proofs.forfochry_run.Goals as goal
-
-pub returns : goal.returns
-returns c = search ran-as-number
