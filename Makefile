@@ -13,10 +13,9 @@ library := target/staticlib/libforfochry.a
 .PHONY: all check bench install uninstall
 .NOTPARALLEL:
 
-# The programs first: rt proves what they need several crates at a time, and the library needs little else.
+# The programs first, so that the last thing rt says is how the library is proved.
 all:
-	rt check marks answers
-	rt staticlib forfochry
+	tools/build.sh marks answers forfochry
 
 check:
 	bash .ci/run

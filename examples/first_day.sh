@@ -9,7 +9,7 @@ fail() { echo "first_day: $1" >&2; exit 1; }
 command -v rt >/dev/null || fail "rt isn't found; put the Rattle kit's command on the PATH"
 mkdir -p target
 [ -x target/bin/answers ] || echo "first_day: the two programs are proved first, which takes some minutes" >&2
-rt check marks answers >target/first_day.log 2>&1 || { tail -n 40 target/first_day.log >&2; fail "the programs aren't proved, and the lines above say why"; }
+tools/build.sh marks answers >target/first_day.log 2>&1 || { tail -n 40 target/first_day.log >&2; fail "the programs aren't proved, and the lines above say why"; }
 marks=$(tests/emulated/program.sh target/bin/marks)
 answers=$(tests/emulated/program.sh target/bin/answers)
 

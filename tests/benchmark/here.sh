@@ -6,17 +6,17 @@ set -euo pipefail
 cd "$(dirname "$0")/../.."
 name=$1
 case $name in
-forfochry) make="staticlib $name" made=target/staticlib/libforfochry.a root=lib kind="--crate-type staticlib" ;;
-*) make="check $name" made=target/bin/$name root=main kind="" ;;
+forfochry) crate=forfochry_c made=target/staticlib/libforfochry.a root=lib kind="--crate-type staticlib" ;;
+*) crate=$name made=target/bin/$name root=main kind="" ;;
 esac
-# shellcheck disable=SC2086
-rt $make >/dev/null 2>&1 || { echo "benchmark: $name isn't proved; rt $make says why" >&2; exit 1; }
+tools/build.sh "$name" >/dev/null 2>&1 || { echo "benchmark: $name isn't proved; tools/build.sh $name says why" >&2; exit 1; }
 if [ "$(uname -m)" = x86_64 ]; then
   echo "$PWD/$made"
   exit
 fi
 kit=$(dirname "$(dirname "$(readlink -f "$(command -v rt)")")")
 own=$kit/on/$(uname -m)
+[ -d "$own" ] || { echo "benchmark: this Rattle kit has no compiler for $(uname -m)" >&2; exit 1; }
 out=$PWD/target/benchmark/$name
 rm -rf "$out"
 mkdir -p "$out/tools/bin"
@@ -27,20 +27,22 @@ rm "$out/tools/bin/clang"
 printf '#!/bin/sh\nfor word in "$@"; do case $word in *.bc) cp "$word" "%s/module.bc" ;; esac; done\nexec "%s/toolchain/bin/clang" "$@"\n' \
   "$out" "$own" >"$out/tools/bin/clang"
 chmod +x "$out/tools/bin/clang"
-words=(--extern "std=$own/rlib/std.rlib" -L dependency=target/rlib -L "dependency=$own/rlib")
-for crate in $(sed -n "s/^$name://p" crates.txt); do
-  rlib=target/rlib/$crate.rlib
-  [ -d "$rlib" ] || rlib=$own/rlib/$crate.rlib
-  words+=(--extern "$crate=$rlib")
+words=(--extern "std=$kit/rlibs/std.rlib" -L "dependency=$kit/rlibs")
+for needed in $(sed -nE "s/^$crate( staticlib)?://p" crates.txt); do
+  words+=(--extern "$needed=crates/$needed/out/rlib/$needed.rlib")
+done
+for rlibs in crates/*/out/rlib; do
+  words+=(-L "dependency=$rlibs")
 done
 # shellcheck disable=SC2086
-"$own/bin/rattle" build --crate-name "$name" "crates/$name/src/$root.rt" "${words[@]}" --antt-project "$kit/logic/antt-project.json" \
-  --logic-built "$own/logic-built" $kind --toolchain "$out/tools" -o "$out/made" >"$out/log" 2>&1 || { cat "$out/log" >&2; exit 1; }
+"$own/bin/rattle" build --crate-name "$crate" "crates/$crate/src/$root.rt" "${words[@]}" \
+  --antt-project "$kit/rattle/logic/antt-project.json" --logic-built "$kit/logic_built" $kind --toolchain "$out/tools" \
+  -o "$out/made" >"$out/log" 2>&1 || { cat "$out/log" >&2; exit 1; }
 "$own/toolchain/bin/clang" --target="$(uname -m)-unknown-linux-gnu" -O3 -fPIC -Wno-override-module -c -x ir "$out/module.bc" -o "$out/native.o" 2>/dev/null
 if [ "$name" = forfochry ]; then
   ar rcs "$out/libforfochry.a" "$out/native.o"
   echo "$out/libforfochry.a"
 else
-  cc -o "$out/$name" "$out/native.o"
+  cc -o "$out/$name" "$out/native.o" "$own"/c/libos_c.a "$own"/c/liblibc_c.a
   echo "$out/$name"
 fi

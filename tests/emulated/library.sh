@@ -4,12 +4,13 @@
 set -euo pipefail
 here=$(cd "$(dirname "$0")" && pwd)
 archive=$(realpath -m "${1:-$here/../../target/staticlib/libforfochry.a}")
-[ -f "$archive" ] || { echo "$archive isn't there; make the library with: rt staticlib forfochry" >&2; exit 1; }
+[ -f "$archive" ] || { echo "$archive isn't there; make the library with: make" >&2; exit 1; }
 if [ "$(uname -m)" = x86_64 ]; then
   echo "$archive"
   exit
 fi
 kit=$(dirname "$(dirname "$(readlink -f "$(command -v rt)")")")/on/$(uname -m)/toolchain/bin
+[ -x "$kit/qemu-x86_64" ] || { echo "this Rattle kit has no emulator for $(uname -m)" >&2; exit 1; }
 out=$here/../../target/emulated
 mkdir -p "$out"
 out=$(realpath "$out")
