@@ -13,8 +13,8 @@ use text_lines::Gathered;
 enum Round {
     // bytes came and were answered, and this line hasn't ended
     More(Gathered),
-    // the input is over, and this line hasn't ended
-    Over(Gathered),
+    // the input is over
+    Over,
     // a read or a write failed, and standard error says which
     Failed,
 }
@@ -30,8 +30,8 @@ fn main(rt: HostRuntime) -> ExitCode {
             Round::More(next) => {
                 line = next;
             }
-            Round::Over(last) => {
-                return answer_last(&rt, last, &mut keep, &mut pool);
+            Round::Over => {
+                return answer_last(&rt, line, &mut keep, &mut pool);
             }
             Round::Failed => {
                 return ExitCode::FAILURE;
@@ -51,7 +51,7 @@ fn answer_once(
 ) -> Round {
     let mut chunk = [0u8; CHUNK];
     match input.read(&mut chunk) {
-        Ok(0) => Round::Over(line),
+        Ok(0) => Round::Over,
         Ok(n) => answer_chunk(rt, &chunk[..n], line, keep, pool),
         Err(_) => {
             let _ = eprintln!(rt; "answers: standard input can't be read");

@@ -15,8 +15,8 @@ use std::process::ExitCode;
 enum Round {
     // bytes came, and the file has been read so far
     More(Progress),
-    // the input is over, and the file has been read so far
-    Over(Progress),
+    // the input is over
+    Over,
     // a read or a write failed, and standard error says which
     Failed,
 }
@@ -48,8 +48,8 @@ fn read_all(
             Round::More(next) => {
                 progress = next;
             }
-            Round::Over(last) => {
-                return write_last(rt, last, keep, out);
+            Round::Over => {
+                return write_last(rt, progress, keep, out);
             }
             Round::Failed => {
                 return ExitCode::FAILURE;
@@ -71,7 +71,7 @@ fn read_once(
     requires { line_size ≤ length out.old }
 {
     match input.read(chunk) {
-        Ok(0) => Round::Over(progress),
+        Ok(0) => Round::Over,
         Ok(n) => write_frames(rt, &chunk[..n], progress, keep, out),
         Err(_) => {
             let _ = eprintln!(rt; "marks: standard input can't be read");
