@@ -1,6 +1,6 @@
 /* Forfochry, a proved mark index: up to sixteen sequences of marks in one lent pool of bytes.
 
-   Link target/staticlib/libforfochry.a, which `rt staticlib forfochry` writes (x86-64 Linux). The library uses no heap, keeps nothing
+   Link target/staticlib/libforfochry.a, which `make` writes (x86-64 Linux). The library uses no heap, keeps nothing
    between calls and has no global state: all it knows is in the pool. Calls on different pools may run at the same time.
 
    What the caller owes, since no proof reaches it:
