@@ -41,8 +41,10 @@ def write(path, text):
 
 
 def names():
-    """The names in camel case of the definitions, laws and local names, comments aside."""
+    """The names in camel case of the definitions, laws and local names, comments aside, and those that clauses give to imports."""
     found = set()
+    for path in sources(".rt"):
+        found.update(m for m in re.findall(r"\bas (\w+)", read(path)) if WORD.fullmatch(m))
     for path in sources(".antt"):
         for m in WORD.finditer(re.sub(r"--.*", "", read(path))):
             if not m.group(0).startswith("0x"):

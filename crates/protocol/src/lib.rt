@@ -5,7 +5,7 @@ ghost use Rattle.std.specs.Prelude.{◌≡◌, ◌+◌, ◌≤◌, length, take,
 ghost use Rattle.std.proofs.Math.Seq.{paste};
 ghost use Rattle.geometry.specs.Limits.{frame_size};
 ghost use Rattle.protocol.specs.Frames.{number_of, command_of, answer_of_bytes, eight_bytes, bytes_of_command, bytes_of_answer};
-ghost use Rattle.protocol.specs.Respond.{refused as refusedWith, value_to};
+ghost use Rattle.protocol.specs.Respond.{refused as refused_with, value_to};
 
 mod numbers;
 
@@ -74,7 +74,7 @@ impl Answer {
 
     // The answer to a refused command.
     pub fn refused(c: Command, status: u8) -> Self
-        ensures { result ≡ refusedWith status c }
+        ensures { result ≡ refused_with status c }
     {
         Answer {
             status,

@@ -2,11 +2,11 @@
 ghost use Rattle.std.specs.Prelude.{◌≡◌, ◌≤◌, ◌<◌, length as length_of};
 ghost use Rattle.geometry.specs.Layout.{least_branch, most_branch};
 ghost use Rattle.geometry.specs.Limits.{most_alphabet};
-ghost use Rattle.pool.specs.Blocks.{entries as entriesOf};
+ghost use Rattle.pool.specs.Blocks.{entries as entries_of};
 ghost use Rattle.pool.specs.Bytes.{shares};
 ghost use Rattle.pool.specs.Trees.{own_count};
 ghost use Rattle.pool.specs.Words.{word_limit};
-ghost use Rattle.sequence.specs.Definition1.{count as count_of, rank as rank_of, select as selectOf};
+ghost use Rattle.sequence.specs.Definition1.{count as count_of, rank as rank_of, select as select_of};
 ghost use Rattle.shape.specs.Trees.{marks_t};
 ghost use Rattle.tree_query.specs.Answers.{FoundOf};
 ghost use Rattle.tree_query.specs.Records.{OfOpenName, tree_by};
@@ -40,7 +40,7 @@ pub fn rank(pool: &[u8], found: Record, c: u8, i: usize) -> usize
 pub fn select(pool: &[u8], found: Record, c: u8, j: usize) -> usize
     requires opened { OfOpenName pool.now found }
     requires number { (c < most_alphabet) × (1 ≤ j) × (j ≤ count_of c (marks_t (tree_by pool.now found))) }
-    ensures { result ≡ selectOf c (marks_t (tree_by pool.now found)) j }
+    ensures { result ≡ select_of c (marks_t (tree_by pool.now found)) j }
 {
     select_in(&pool, found.height, found.root as usize, c, j)
 }
@@ -61,7 +61,7 @@ pub fn count(pool: &[u8], found: Record, c: u8) -> usize
 // How many marks c the entries of a branch say.
 fn count_in_branch(pool: &[u8], b: usize, c: usize) -> usize
     requires inside { (b < shares pool.now) × (c < most_alphabet) }
-    requires size { (least_branch ≤ entriesOf pool.now b) × (entriesOf pool.now b ≤ most_branch)
+    requires size { (least_branch ≤ entries_of pool.now b) × (entries_of pool.now b ≤ most_branch)
         × (own_count pool.now 1 b c < word_limit) }
     ensures { result ≡ own_count pool.now 1 b c }
 {

@@ -7,7 +7,7 @@ mod descent;
 pub use by_name::{access, count, rank, select};
 
 // The mark at a place, and how many blocks were entered on the way to it.
-#[derive(Drop)]
+#[derive(Clone, Copy)]
 pub struct Found {
     pub mark: u8,
     pub blocks: usize,
