@@ -22,7 +22,7 @@ fn main(rt: HostRuntime) -> io::Result<()> {
     let mut input = rt.stdin();
     let mut head = [0u8; HEAD_SIZE];
     for _ in 0..1000 {
-        if read_full(&mut input, &mut head)? < HEAD_SIZE {
+        if read_full(&mut input, &mut head)? < HEAD_SIZE as u64 {
             return Ok(());
         }
         let mut pool = [0u8; ROOM];
@@ -50,7 +50,7 @@ fn run_case(
         return Ok(());
     }
     let long = read_full(input, &mut pool[..given])?;
-    if long < given {
+    if long < given as u64 {
         return Ok(());
     }
     rt.write_all(&head[LABEL_AT..])?;
@@ -63,16 +63,9 @@ fn run_case(
 }
 
 // Reads until the buffer is full or the input ends, and tells how many bytes stand at its front then.
-fn read_full(input: &mut impl Read, buf: &mut [u8]) -> io::Result<usize> {
-    let mut done = 0;
-    while done < buf.len() {
-        let n = input.read(&mut buf[done..])?;
-        if n == 0 {
-            break;
-        }
-        done += n;
-    }
-    Ok(done)
+fn read_full(input: &mut impl Read, mut buf: &mut [u8]) -> io::Result<u64> {
+    let mut part = input.take(buf.len() as u64);
+    io::copy(&mut part, &mut buf)
 }
 
 // A number of three bytes, low byte first.

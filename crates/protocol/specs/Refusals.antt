@@ -1,5 +1,6 @@
 -- The table of statuses of a frame, row by row as in RULES, Statuses. The order of the rows decides.
-use Rattle.std.specs.Prelude.{Bool, true, false, cond, not, ◌&&◌, ◌||◌, List, [], ◌∷◌, map, ◌⊎◌, ◌≢◌, ◌≡◌, ℕ, ◌*◌, ◌≤◌, eqb, leb, ltb, length}
+use Rattle.std.specs.Prelude.{Bool, true, false, cond, not, ◌&&◌, ◌||◌, List, [], ◌∷◌, map}
+use Rattle.std.specs.Prelude.{◌⊎◌, ◌≢◌, ◌≡◌, ℕ, ◌*◌, ◌≤◌, eqb, leb, ltb, length}
 use Rattle.geometry.specs.Limits.{names, least_alphabet, most_alphabet, marks_per_share}
 use Rattle.sequence.specs.Definition1.{count}
 use Rattle.protocol.specs.State.{Store, Part, lists, is_open, alphabet_of, shares_of, marks_of}

@@ -33,7 +33,8 @@ pub record TwoNodes (p : List ℕ) (h left right : ℕ) : Type 0 where
 pub record NodesMended (h left right : ℕ) (roots gone : List ℕ) (p q : List ℕ) : Type 0 where
   pub shapes : map (shape_at q h) roots ≡ chop (most one_to_a_byte h) (shape_at p h left ++ shape_at p h right)
   pub sound : All (SoundChild q h) roots
-  pub blocks : (x : ℕ) → count x (joined (blocks_at q h) roots) + count x gone ≡ count x (blocks_at p h left) + count x (blocks_at p h right)
+  pub blocks : (x : ℕ)
+      → count x (joined (blocks_at q h) roots) + count x gone ≡ count x (blocks_at p h left) + count x (blocks_at p h right)
   pub only : Only (λ x. (x ≡ left) ⊎ (x ≡ right)) p q
 
 -- both in the left one
@@ -71,7 +72,8 @@ pub record PairOf (p m : List ℕ) (h b k left right : ℕ) : Type 0 where
 abbrev pub pair_shape : List ℕ → (h : ℕ) → ℕ → ℕ → Node (suc h)
 pair_shape p h b k =
     take k (shape_at p (suc h) b)
-    ++ (chop (most one_to_a_byte h) (shape_at p h (link p b k) ++ shape_at p h (link p b (k + 1))) ++ drop (suc (suc k)) (shape_at p (suc h) b))
+    ++ (chop (most one_to_a_byte h) (shape_at p h (link p b k) ++ shape_at p h (link p b (k + 1)))
+    ++ drop (suc (suc k)) (shape_at p (suc h) b))
 
 abbrev pub PairMended : ℕ → ℕ → ℕ → List ℕ → List ℕ → List ℕ → List ℕ → Type 0
 PairMended h b k p q m n = Becomes (suc h) b (pair_shape p h b k) p q m n

@@ -27,26 +27,13 @@ fn main(rt: HostRuntime) -> io::Result<()> {
     let mut pool = [0u8; POOL];
     let mut slots = [0u8; SLOT * Record::NAMES];
     let mut map = [0u8; Record::MOST_SHARES];
-    read_full(&mut input, &mut pool)?;
-    read_full(&mut input, &mut slots)?;
+    io::copy(&mut input.by_ref().take(POOL as u64), &mut &mut pool[..])?;
+    io::copy(&mut input.take(slots.len() as u64), &mut &mut slots[..])?;
     if pool_check::check(&pool, &mut map) {
         compare_names(&rt, &pool, &slots)
     } else {
         println!(rt; "the pool isn't sound")
     }
-}
-
-// Reads until the buffer is full or the input ends.
-fn read_full(input: &mut impl Read, buf: &mut [u8]) -> io::Result<()> {
-    let mut done = 0;
-    while done < buf.len() {
-        let n = input.read(&mut buf[done..])?;
-        if n == 0 {
-            break;
-        }
-        done += n;
-    }
-    Ok(())
 }
 
 // Compares each name with its slot.

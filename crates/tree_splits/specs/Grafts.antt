@@ -78,7 +78,8 @@ pub record TakeUpReady (p m : List ℕ) (h b k child c holder : ℕ) (g : Grown)
   pub symbol : c < most_alphabet
   pub sound : All (SoundChild p h) (roots g child)
   pub marks : total (λ x. marks_in h (shape_at p h x)) (roots g child) ≡ marks_below p b k + 1
-  pub counts : (d : ℕ) → d < most_alphabet → total (λ x. count d (flat h (shape_at p h x))) (roots g child) ≡ count_below p b k d + is_mark d c
+  pub counts : (d : ℕ) → d < most_alphabet
+      → total (λ x. count d (flat h (shape_at p h x))) (roots g child) ≡ count_below p b k d + is_mark d c
   pub short : marks_below p b k + 1 < word_limit
   pub room : entries p b + cond g.split 1 0 ≤ most_branch + free_in m
 
