@@ -1,15 +1,14 @@
--- Frames and their eight bytes: reading gives back what was written and writing what was read, and what the code reads and puts.
+-- Frames and their eight bytes: reading gives back what was written and writing what was read.
 use mathlib.Core.Path.{◌≡◌, refl, sym, ap, ◌∙◌}
 use mathlib.Core.List.{List, [], ◌∷◌}
-use Prim.Native.Nat.{ℕ, zero, suc, ◌+◌, ◌/◌, ◌%◌, ◌^◌, ◌≤◌, ◌<◌}
-use native.Mathlib.Nat.{add-zero, div-add-mod'}
-use native.Mathlib.Numerals.{add-one, add-two, add-three, add-four, add_five, add_six, add_seven}
+use Prim.Native.Nat.{ℕ, zero, suc, ◌/◌, ◌%◌, ◌^◌, ◌<◌}
+use native.Mathlib.Nat.{div-add-mod'}
 use native.Mathlib.Omega.{arith}
 use lib.Dec.{lit<}
-use lib.ListN.{length, get_or, take, drop, set, drop_of_length-le}
-use lib.Seq.{drop-cons, get_or-take, get_or-drop, sets-eq, paste}
+use lib.ListN.{length, get_or, drop, drop_of_length-le}
+use lib.Seq.{drop-cons}
 use Rattle.geometry.specs.Limits.{frame_size}
-use Rattle.protocol.specs.Frames.{number_of, command_of, answer_of_bytes, bytes_of_command, bytes_of_answer, Fitting}
+use Rattle.protocol.specs.Frames.{number_of, command_of, bytes_of_command, bytes_of_answer, Fitting}
 use Rattle.lists.specs.Items.{AllBelow}
 use Rattle.protocol.specs.Frames.{number_of, command_of, bytes_of_command, bytes_of_answer, Fitting}
 use Rattle.protocol.specs.declared.Answer.{Answer}
@@ -74,44 +73,3 @@ bytes-of-command bytes long below =
     let third : number_of a b c d / 256 % 256 ≡ c = omega (arith, small 4, small 5, small 6, small 7) in
     let last : number_of a b c d % 256 ≡ d = omega (arith, small 4, small 5, small 6, small 7) in
     rw (first, second, third, last) (sym (eight bytes long))
-
--- a byte of the eight from `at` on
-byte_at : (bytes : List ℕ) (at i : ℕ) → i < frame_size → get_or (take frame_size (drop at bytes)) i 0 ≡ get_or bytes (at + i) 0
-byte_at bytes at i below = get_or-take frame_size (drop at bytes) i 0 below ∙ get_or-drop at bytes i 0
-
--- what the code reads is the command of the eight bytes from `at` on
-pub command-at : (bytes : List ℕ) (at number : ℕ)
-    → number ≡ number_of (get_or bytes (at + 4) 0) (get_or bytes (at + 5) 0) (get_or bytes (at + 6) 0) (get_or bytes (at + 7) 0)
-    → ◌≡◌ {A = Command}
-    (record { code = get_or bytes at 0; name = get_or bytes (at + 1) 0; symbol = get_or bytes (at + 2) 0; fourth = get_or bytes (at + 3) 0; number = number })
-    (command_of (take frame_size (drop at bytes)))
-unfolding command_of
-command-at bytes at number is =
-    rw (
-      is,
-      byte_at bytes at 0 (lit< tt),
-      byte_at bytes at 1 (lit< tt),
-      byte_at bytes at 2 (lit< tt),
-      byte_at bytes at 3 (lit< tt),
-      byte_at bytes at 4 (lit< tt),
-      byte_at bytes at 5 (lit< tt),
-      byte_at bytes at 6 (lit< tt),
-      byte_at bytes at 7 (lit< tt),
-      add-zero at,
-    )
-
--- an answer has its fields where a command has them
-pub answer_at : (bytes : List ℕ) (fields : Command) → fields ≡ command_of bytes
-    → ◌≡◌ {A = Answer}
-    (record { status = fields.code; name = fields.name; symbol = fields.symbol; depth = fields.fourth; value = fields.number })
-    (answer_of_bytes bytes)
-unfolding command_of answer_of_bytes
-answer_at bytes fields is = rw is
-
--- what the code puts, byte after byte, is the eight bytes from `at` on
-pub eight-put : (out : List ℕ) (at a b c d e f g h : ℕ) → at + frame_size ≤ length out
-    → set (set (set (set (set (set (set (set out at a) (at + 1) b) (at + 2) c) (at + 3) d) (at + 4) e) (at + 5) f) (at + 6) g) (at + 7) h
-    ≡ paste out at (a ∷ b ∷ c ∷ d ∷ e ∷ f ∷ g ∷ h ∷ []) frame_size
-eight-put out at a b c d e f g h room =
-    rw (add-one at, add-two at, add-three at, add-four at, add_five at, add_six at, add_seven at)
-    (sets-eq (a ∷ b ∷ c ∷ d ∷ e ∷ f ∷ g ∷ h ∷ []) out at room)

@@ -4,10 +4,23 @@
 ghost use Rattle.std.specs.Prelude.{◌≡◌, ◌+◌, ◌≤◌, length, take, drop};
 ghost use Rattle.std.proofs.Math.Seq.{paste};
 ghost use Rattle.geometry.specs.Limits.{frame_size};
-ghost use Rattle.protocol.specs.Frames.{number_of, command_of, answer_of_bytes, eight_bytes, bytes_of_command, bytes_of_answer};
+ghost use Rattle.protocol.specs.Frames.{frame_of_bytes, bytes_of_frame, command_in, answer_in, frame_of_command, frame_of_answer};
+ghost use Rattle.protocol.specs.Frames.{command_of, answer_of_bytes, bytes_of_command, bytes_of_answer};
 ghost use Rattle.protocol.specs.Respond.{refused as refused_with, value_to};
 
+use geometry::Record;
+
 mod numbers;
+
+// A frame as it is sent: four bytes and a number.
+#[derive(Clone, Copy, PartialEq, Eq)]
+pub struct Frame {
+    pub first: u8,
+    pub second: u8,
+    pub third: u8,
+    pub fourth: u8,
+    pub number: u32,
+}
 
 #[derive(Clone, Copy)]
 pub struct Command {
@@ -27,34 +40,114 @@ pub struct Answer {
     pub value: u32,
 }
 
+impl Frame {
+    // The frame that the eight bytes from `at` on stand for.
+    pub fn decode(bytes: &[u8], at: usize) -> Self
+        requires { at + frame_size ≤ length bytes.now }
+        ensures { result ≡ frame_of_bytes (take frame_size (drop at bytes.now)) }
+    {
+        Frame {
+            first: bytes[at],
+            second: bytes[at + 1],
+            third: bytes[at + 2],
+            fourth: bytes[at + 3],
+            number: u32::from_be_bytes([
+                bytes[at + 4],
+                bytes[at + 5],
+                bytes[at + 6],
+                bytes[at + 7],
+            ]),
+        }
+    }
+
+    // Puts the frame's eight bytes into out, from `at` on.
+    pub fn encode(self, out: &mut [u8], at: usize)
+        requires { at + frame_size ≤ length out.old }
+        ensures { out.new ≡ paste out.old at (bytes_of_frame self) frame_size }
+    {
+        let end = at + Record::FRAME_SIZE;
+        out[at..end].copy_from_slice(&self.bytes());
+    }
+
+    // The frame's eight bytes.
+    fn bytes(self) -> [u8; Record::FRAME_SIZE]
+        ensures { result ≡ bytes_of_frame self }
+    {
+        let [a, b, c, d] = self.number.to_be_bytes();
+        [self.first, self.second, self.third, self.fourth, a, b, c, d]
+    }
+}
+
+impl From<Frame> for Command {
+    ghost from_gives = { λ frame c. c ≡ command_in frame };
+
+    fn from(frame: Frame) -> Self {
+        Command {
+            code: frame.first,
+            name: frame.second,
+            symbol: frame.third,
+            fourth: frame.fourth,
+            number: frame.number,
+        }
+    }
+}
+
+impl From<Command> for Frame {
+    ghost from_gives = { λ c frame. frame ≡ frame_of_command c };
+
+    fn from(c: Command) -> Self {
+        Frame {
+            first: c.code,
+            second: c.name,
+            third: c.symbol,
+            fourth: c.fourth,
+            number: c.number,
+        }
+    }
+}
+
+impl From<Frame> for Answer {
+    ghost from_gives = { λ frame a. a ≡ answer_in frame };
+
+    fn from(frame: Frame) -> Self {
+        Answer {
+            status: frame.first,
+            name: frame.second,
+            symbol: frame.third,
+            depth: frame.fourth,
+            value: frame.number,
+        }
+    }
+}
+
+impl From<Answer> for Frame {
+    ghost from_gives = { λ a frame. frame ≡ frame_of_answer a };
+
+    fn from(a: Answer) -> Self {
+        Frame {
+            first: a.status,
+            second: a.name,
+            third: a.symbol,
+            fourth: a.depth,
+            number: a.value,
+        }
+    }
+}
+
 impl Command {
     // The command that the eight bytes from `at` on stand for.
     pub fn decode(bytes: &[u8], at: usize) -> Self
         requires { at + frame_size ≤ length bytes.now }
         ensures { result ≡ command_of (take frame_size (drop at bytes.now)) }
     {
-        Command {
-            code: bytes[at],
-            name: bytes[at + 1],
-            symbol: bytes[at + 2],
-            fourth: bytes[at + 3],
-            number: number(bytes[at + 4], bytes[at + 5], bytes[at + 6], bytes[at + 7]),
-        }
+        Command::from(Frame::decode(bytes, at))
     }
     // Puts the command's eight bytes into out, from `at` on.
     pub fn encode(self, out: &mut [u8], at: usize)
         requires { at + frame_size ≤ length out.old }
         ensures { out.new ≡ paste out.old at (bytes_of_command self) frame_size }
     {
-        put_eight(
-            out,
-            at,
-            self.code,
-            self.name,
-            self.symbol,
-            self.fourth,
-            self.number,
-        );
+        Frame::from(self).encode(out, at);
     }
 }
 
@@ -85,19 +178,12 @@ impl Answer {
         }
     }
 
-    // The answer that the eight bytes from `at` on stand for. They stand as a command's do.
+    // The answer that the eight bytes from `at` on stand for.
     pub fn decode(bytes: &[u8], at: usize) -> Self
         requires { at + frame_size ≤ length bytes.now }
         ensures { result ≡ answer_of_bytes (take frame_size (drop at bytes.now)) }
     {
-        let fields = Command::decode(bytes, at);
-        Answer {
-            status: fields.code,
-            name: fields.name,
-            symbol: fields.symbol,
-            depth: fields.fourth,
-            value: fields.number,
-        }
+        Answer::from(Frame::decode(bytes, at))
     }
 
     // Puts the answer's eight bytes into out, from `at` on.
@@ -105,36 +191,6 @@ impl Answer {
         requires { at + frame_size ≤ length out.old }
         ensures { out.new ≡ paste out.old at (bytes_of_answer self) frame_size }
     {
-        put_eight(
-            out,
-            at,
-            self.status,
-            self.name,
-            self.symbol,
-            self.depth,
-            self.value,
-        );
+        Frame::from(self).encode(out, at);
     }
-}
-
-// The number that four bytes stand for.
-fn number(a: u8, b: u8, c: u8, d: u8) -> u32
-    ensures { result ≡ number_of a b c d }
-{
-    ((a as u32 * 256 + b as u32) * 256 + c as u32) * 256 + d as u32
-}
-
-// Puts a frame's eight bytes into out, from `at` on: four bytes, and the four of a number.
-fn put_eight(out: &mut [u8], at: usize, first: u8, second: u8, third: u8, fourth: u8, number: u32)
-    requires { at + frame_size ≤ length out.old }
-    ensures { out.new ≡ paste out.old at (eight_bytes first second third fourth number) frame_size }
-{
-    out[at] = first;
-    out[at + 1] = second;
-    out[at + 2] = third;
-    out[at + 3] = fourth;
-    out[at + 4] = (number / 16777216 % 256) as u8;
-    out[at + 5] = (number / 65536 % 256) as u8;
-    out[at + 6] = (number / 256 % 256) as u8;
-    out[at + 7] = (number % 256) as u8;
 }

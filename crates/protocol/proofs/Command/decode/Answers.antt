@@ -1,6 +1,8 @@
--- `protocol::Command::decode` meets its contract: each field is read where the eight bytes from `at` on have it.
-use Rattle.protocol.proofs.Frames.{command-at}
+-- `protocol::Command::decode` meets its contract: the eight bytes' frame is read as a command.
+use borrow.Author.Rules.{rules}
+use Rattle.protocol.specs.Frames.{command_of}
 use Rattle.protocol.proofs.Command.decode.Goals as goal
 
 pub returns : goal.returns
-returns c = search command-at
+unfolding command_of
+returns c = search rules
