@@ -1,4 +1,3 @@
-pub mod Places
 pub mod Levels
 pub mod Summaries
 pub mod Entries

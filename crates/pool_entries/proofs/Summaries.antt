@@ -1,16 +1,15 @@
--- What a block says of its marks: what a leaf counts and a branch adds up is that, and how large it may be.
-use mathlib.Core.Path.{◌≡◌, refl, ap, ap₂, ◌∙◌}
+-- What a block says of its marks: what a branch's entries add up to, and when it fits words.
+use mathlib.Core.Path.{◌≡◌, refl, ap, ◌∙◌}
 use mathlib.Core.List.{List}
-use Prim.Native.Nat.{ℕ, zero, suc, ◌+◌, ◌-◌, ◌*◌, ◌≤◌, ◌<◌}
+use Prim.Native.Nat.{ℕ, zero, suc, ◌+◌, ◌*◌, ◌≤◌, ◌<◌}
 use native.Mathlib.Nat.{add_assoc}
 use native.Mathlib.Omega.{arith}
-use lib.ListN.{length, take, drop}
+use lib.ListN.{length}
 use Rattle.geometry.specs.Layout.{entry_counts_at, most_leaf, most_branch, word_size}
 use Rattle.geometry.specs.Limits.{most_alphabet}
 use Rattle.lists.proofs.Sums.{sum_below-same}
 use Rattle.lists.specs.Sums.{sum_below}
-use Rattle.pool.specs.Blocks.{entries, leaf_marks, count_below}
-use Rattle.pool.specs.Bytes.{block_at}
+use Rattle.pool.specs.Blocks.{entries, count_below}
 use Rattle.pool.specs.Trees.{own_marks, own_count}
 use Rattle.pool.specs.Words.{word_limit}
 use Rattle.sequence.proofs.Counts.{count-le-length}
@@ -18,16 +17,7 @@ use Rattle.sequence.specs.Definition1.{count}
 use Rattle.shape.specs.Sizes.{one_to_a_byte, most}
 use Rattle.pool_entries.specs.Summaries.{Is, words_at, SmallSums}
 
--- a leaf's count of a symbol, in the stretch of its marks
-pub leaf-count : (p : List ℕ) (level b at many c met : ℕ) → level ≡ 0 → at ≡ block_at b → Is (entries p b) many
-    → met ≡ count c (take (at + many - at) (drop at p)) → met ≡ own_count p level b c
-unfolding leaf_marks
-leaf-count p zero b at many c met leaf place size counted =
-    let e : at + many - at ≡ entries p b = omega (arith, size.is) in
-    counted ∙ ap₂ (λ (n a : ℕ). count c (take n (drop a p))) e place
-leaf-count p (suc h) b at many c met leaf place size counted = absurd (omega arith)
-
--- a branch's, the words of its entries at the offset of the symbol, added up
+-- a branch's count of a symbol, the words of its entries at the symbol's offset, added up
 pub branch-count : (p : List ℕ) (b many : ℕ) → Is (entries p b) many
     → (c met : ℕ) → met ≡ sum_below many (words_at p b (entry_counts_at + word_size * c)) → met ≡ own_count p 1 b c
 branch-count p b many size c met added =

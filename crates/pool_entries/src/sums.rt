@@ -40,6 +40,7 @@ fn own_marks(pool: &[u8], level: usize, b: usize) -> usize
 }
 
 // How many of them are a symbol: those that stand in a leaf, those that a branch's entries say.
+#[tactic(auto, unfolding(pool::specs::Blocks::leaf_marks))]
 fn own_count(pool: &[u8], level: usize, b: usize, symbol: usize) -> usize
     requires block { (b < shares pool.now) × (entries pool.now b ≤ most one_to_a_byte level) }
     requires inside { symbol < most_alphabet }
