@@ -1,13 +1,12 @@
 -- Words and the two bytes that make them.
 use mathlib.Core.Path.{◌≡◌, ap₂}
 use mathlib.Core.List.{List}
-use Prim.Native.Nat.{ℕ, ◌+◌, ◌*◌, ◌/◌, ◌%◌, ◌≤◌, ◌<◌}
+use Prim.Native.Nat.{ℕ, ◌+◌, ◌*◌, ◌≤◌, ◌<◌}
 use native.Mathlib.Omega.{arith}
 use lib.ListN.{take, drop}
 use Rattle.geometry.specs.Layout.{word_size}
 use Rattle.lists.proofs.Cuts.{cut-get_or}
 use Rattle.pool.specs.Bytes.{byte, word}
-use Rattle.pool.specs.Words.{Wide, WordAt}
 
 -- two words of the same two bytes are the same
 pub word_same : (p q : List ℕ) (a b : ℕ) → byte q b ≡ byte p a → byte q (b + 1) ≡ byte p (a + 1) → word q b ≡ word p a
@@ -33,16 +32,6 @@ low-zero p a i none = omega arith
 pub high_zero : (p : List ℕ) (a i : ℕ) → word p (a + i) ≡ 0 → byte p (a + (i + 1)) ≡ 0
 unfolding word
 high_zero p a i none = let next : a + (i + 1) ≡ a + i + 1 = omega arith in rw next (omega arith)
-
--- the word that two bytes read make
-pub word-of-bytes : (p : List ℕ) (at low high : ℕ) → Wide (byte p at) low → Wide (byte p (at + 1)) high → WordAt p at (low + 256 * high)
-unfolding word
-word-of-bytes p at low high l h = record { is = omega arith; small = omega arith }
-
--- a number's two bytes make its word
-pub word-is : (p : List ℕ) (at value : ℕ) → byte p at ≡ value % 256 → byte p (at + 1) ≡ value / 256 → word p at ≡ value
-unfolding word
-word-is p at value low high = omega arith
 
 -- a word of a stretch
 pub cut_word : (p : List ℕ) (a n i : ℕ) → i + word_size ≤ n → word (take n (drop a p)) i ≡ word p (a + i)

@@ -1,9 +1,8 @@
 -- Records of names: what the stores of one leave, and what leaves one alone.
-use mathlib.Core.Path.{◌≡◌, sym, ap, ◌∙◌}
+use mathlib.Core.Path.{◌≡◌, ap, ◌∙◌}
 use mathlib.Core.List.{List}
 use Prim.Native.Nat.{ℕ, zero, suc, ◌+◌, ◌-◌, ◌≤◌, ◌<◌}
 use native.Mathlib.Omega.{arith}
-use lib.ListN.{length as length_of}
 use Rattle.geometry.specs.Layout.{record_size, kind_at, alphabet_at, height_at, zero_at, q_at, root_at, length_at, spare_at, word_size}
 use Rattle.geometry.specs.Records.{closed_record}
 use Rattle.geometry.specs.declared.Record.{Record}
@@ -12,7 +11,7 @@ use Rattle.pool.specs.Names.{record_of}
 use Rattle.pool.specs.Changes.{Outside}
 use Rattle.pool.specs.Records.{PutFields, PutRecord}
 use Rattle.pool.specs.Sound.{ClosedName}
-use Rattle.pool.specs.Words.{WordAt, PutByte, PutWord, Cleared}
+use Rattle.pool.specs.Words.{PutByte, PutWord}
 use Rattle.pool.proofs.Words.{word-zero, low-zero, high_zero, word-in-stretch}
 use Rattle.pool.proofs.Changes.{outside-then, outside_wider, word-before}
 
@@ -23,22 +22,6 @@ pub record_is : (p : List ℕ) (name : ℕ) (put : Record)
     → record_of p name ≡ put
 unfolding record_of
 record_is p name put kind alphabet height q root length = rw (kind, alphabet, height, q, root, length)
-
--- a record read field by field, from its address on
-pub record-read : (p : List ℕ) (name at q root length : ℕ) → at ≡ record_at name
-    → WordAt p (at + q_at) q → WordAt p (at + root_at) root → WordAt p (at + length_at) length
-    → record {
-      kind = byte p (at + kind_at);
-      alphabet = byte p (at + alphabet_at);
-      height = byte p (at + height_at);
-      q = q;
-      root = root;
-      length = length;
-    } ≡ record_of p name
-record-read p name at q root length place a b c =
-    sym
-    (record_is p name _ (rw place) (rw place) (rw place)
-    (sym (rw place at a.is)) (sym (rw place at b.is)) (sym (rw place at c.is)))
 
 -- a change of the bytes at an offset, and then changes of those behind it, up to the spare ones
 change-then : (at i many j : ℕ) {p q r : List ℕ} → i ≤ j → i + many ≤ spare_at → j ≤ spare_at
@@ -71,24 +54,6 @@ module _ (at : ℕ) (put : Record) (p p₁ p₂ p₃ p₄ p₅ p₆ : List ℕ)
         root = word-before length.same (at + root_at) (omega arith) ∙ root.put;
         length = length.put;
       }
-
-  pub fields-long : length_of p₆ ≡ length_of p
-  fields-long = fields-put.same.long
-
--- all bytes of a record: zeros, and its fields
-pub record-put : (name at : ℕ) (put : Record) (p q r : List ℕ) → at ≡ record_at name → Cleared at record_size p q → PutFields at put q r
-    → PutRecord name put p r
-record-put name at put p q r place zeros fields =
-    record {
-      same =
-          outside-then (outside_wider (record_at name) record_size (omega arith) (omega arith) zeros.same)
-          (outside_wider (record_at name) record_size (omega arith) (omega arith) fields.same);
-      is =
-          record_is r name put (rw place at fields.kind) (rw place at fields.alphabet) (rw place at fields.height)
-          (rw place at fields.q) (rw place at fields.root) (rw place at fields.length);
-      zero_byte = rw place at (fields.zero_byte ∙ zeros.zeros zero_at (omega arith));
-      spare = λ j front back. rw place at (fields.same.high (at + j) (omega arith) ∙ zeros.zeros j back);
-    }
 
 -- the record of a closed name, written, is zeros
 pub closed-put : (name : ℕ) (p q : List ℕ) → PutRecord name closed_record p q → ClosedName q name

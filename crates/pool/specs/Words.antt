@@ -16,11 +16,6 @@ word_limit = 65536
 abbrev pub address_limit : ℕ
 address_limit = 2 ^ 64
 
--- a byte, as a number to reckon with
-pub record Wide (x r : ℕ) : Type 0 where
-  pub is : r ≡ x
-  pub small : r < byte_limit
-
 -- the word read at an address
 pub record WordAt (p : List ℕ) (at r : ℕ) : Type 0 where
   pub is : r ≡ word p at

@@ -2,27 +2,28 @@
 ghost use Rattle.std.specs.Prelude.{◌+◌, ◌≤◌, ◌<◌, length};
 ghost use Rattle.geometry.specs.Layout.{word_size};
 ghost use Rattle.geometry.specs.Limits.{block_size};
-ghost use Rattle.pool.specs.Words.{word_limit, Wide, WordAt, PutByte, PutWord, Copied, Moved, Cleared};
+ghost use Rattle.pool.specs.Words.{word_limit, WordAt, PutByte, PutWord, Moved, Cleared};
 
 use geometry::Record;
 
-// A byte, as a number to reckon with.
-pub fn wide(x: u8) -> usize
-    ensures { Wide x result }
+// The word at an address, low byte first, as it is kept.
+#[tactic(auto, unfolding(crate::specs::Bytes::word))]
+pub(crate) fn u16_at(pool: &[u8], at: usize) -> u16
+    requires { at + word_size ≤ length pool.now }
+    ensures { WordAt pool.now at result }
 {
-    x as usize
+    u16::from_le_bytes([pool[at], pool[at + 1]])
 }
 
-// The word at an address, low byte first.
+// The same, as a number to reckon with.
 pub fn word(pool: &[u8], at: usize) -> usize
     requires { at + word_size ≤ length pool.now }
     ensures { WordAt pool.now at result }
 {
-    let low = wide(pool[at]);
-    let high = wide(pool[at + 1]);
-    low + 256 * high
+    usize::from(u16_at(pool, at))
 }
 
+// Puts a byte at an address.
 pub fn put_byte(pool: &mut [u8], at: usize, value: u8)
     requires { at < length pool.old }
     ensures { PutByte at value pool.old pool.new }
@@ -30,12 +31,21 @@ pub fn put_byte(pool: &mut [u8], at: usize, value: u8)
     pool[at] = value;
 }
 
+// Puts a word at an address, low byte first.
+#[tactic(auto, unfolding(crate::specs::Bytes::word))]
+pub(crate) fn put_u16(pool: &mut [u8], at: usize, value: u16)
+    requires { at + word_size ≤ length pool.old }
+    ensures { PutWord at value pool.old pool.new }
+{
+    pool[at..at + Record::WORD_SIZE].copy_from_slice(&value.to_le_bytes());
+}
+
+// The same, from a number to reckon with.
 pub fn put_word(pool: &mut [u8], at: usize, value: usize)
     requires { (at + word_size ≤ length pool.old) × (value < word_limit) }
     ensures { PutWord at value pool.old pool.new }
 {
-    put_byte(pool, at, (value % 256) as u8);
-    put_byte(pool, at + 1, (value / 256) as u8);
+    put_u16(pool, at, value as u16);
 }
 
 // Moves bytes, at most a block's, to where they may overlap the bytes that they were.
@@ -55,42 +65,25 @@ fn move_down(pool: &mut [u8], from: usize, to: usize, many: usize)
     requires { (to ≤ from) × (from + many ≤ length pool.old) }
     ensures { Moved from to many pool.old pool.new }
 {
-    let mut i = 0;
-    while i < many {
+    for i in 0..many {
         pool[to + i] = pool[from + i];
-        i += 1;
     }
 }
 
-// Moves bytes towards the back. They are set aside first, as the compiler makes a quick copy of a loop that goes forward only.
+// Moves bytes towards the back. They are set aside first, since copy_within goes back byte by byte (D41).
 fn move_up(pool: &mut [u8], from: usize, to: usize, many: usize)
     requires { (from + many ≤ length pool.old) × (to + many ≤ length pool.old) × (many ≤ block_size) }
     ensures { Moved from to many pool.old pool.new }
 {
     let mut aside = [0; Record::BLOCK_SIZE];
-    copy_bytes(pool, from, &mut aside, 0, many);
-    copy_bytes(&aside, 0, pool, to, many);
+    aside[..many].copy_from_slice(&pool[from..from + many]);
+    pool[to..to + many].copy_from_slice(&aside[..many]);
 }
 
-// Copies bytes of one buffer to another.
-fn copy_bytes(source: &[u8], from: usize, target: &mut [u8], to: usize, many: usize)
-    requires { (from + many ≤ length source.now) × (to + many ≤ length target.old) }
-    ensures { Copied source.now from to many target.old target.new }
-{
-    let mut i = 0;
-    while i < many {
-        target[to + i] = source[from + i];
-        i += 1;
-    }
-}
-
+// Puts zeros from an address on.
 pub fn clear_bytes(pool: &mut [u8], at: usize, many: usize)
     requires { at + many ≤ length pool.old }
     ensures { Cleared at many pool.old pool.new }
 {
-    let mut i = 0;
-    while i < many {
-        pool[at + i] = 0;
-        i += 1;
-    }
+    pool[at..at + many].fill(0);
 }

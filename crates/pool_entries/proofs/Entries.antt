@@ -3,11 +3,11 @@ use mathlib.Core.Path.{◌≡◌, ◌∙◌}
 use mathlib.Core.List.{List}
 use Prim.Native.Nat.{ℕ, ◌+◌, ◌*◌, ◌≤◌, ◌<◌}
 use native.Mathlib.Omega.{arith}
-use borrow.Author.Count.{below_none, below_more}
+use borrow.Author.Count.{below_more}
 use lib.ListN.{get_or}
 use Rattle.geometry.specs.Layout.{form_at, count_at, entry_size, entry_marks_at, entry_counts_at, most_branch, word_size}
 use Rattle.geometry.specs.Limits.{most_alphabet}
-use Rattle.pool.proofs.Changes.{outside-none, outside-then, outside_wider, only-block, word-before, word-behind}
+use Rattle.pool.proofs.Changes.{outside-then, outside_wider, only-block, word-before, word-behind}
 use Rattle.pool.specs.Blocks.{form_of, entries, entry_at, link, marks_below, count_below}
 use Rattle.pool.specs.Bytes.{word, block_at}
 use Rattle.pool.specs.Changes.{Outside, Only}
@@ -18,12 +18,9 @@ use Rattle.pool_entries.specs.declared.Summary.{Summary}
 
 -- counts put one after the other
 module _ (at : ℕ) (counts p : List ℕ) where
-  pub counts-none : PutCounts at 0 counts p p
-  counts-none = record { same = outside-none at 0 p; put = below_none (λ c. word p (at + word_size * c) ≡ get_or counts c 0) }
-
-  pub counts-more : (many : ℕ) (q r : List ℕ) → PutCounts at many counts p q → PutWord (at + word_size * many) (get_or counts many 0) q r
-      → PutCounts at (many + 1) counts p r
-  counts-more many q r done one =
+  pub counts-more : (many value : ℕ) (q r : List ℕ) → PutCounts at many counts p q → value ≡ get_or counts many 0
+      → PutWord (at + word_size * many) value q r → PutCounts at (many + 1) counts p r
+  counts-more many value q r done told one =
       record {
         same =
             outside-then (outside_wider at (word_size * (many + 1)) (omega arith) (omega arith) done.same)
@@ -31,25 +28,22 @@ module _ (at : ℕ) (counts p : List ℕ) where
         put =
             below_more (λ c. word r (at + word_size * c) ≡ get_or counts c 0) many
             (λ c h. word-before one.same (at + word_size * c) (omega arith) ∙ done.put c h)
-            one.put;
+            (one.put ∙ told);
       }
 
-  pub counts_all : (most many : ℕ) (q : List ℕ) → PutCounts at many counts p q → many ≤ most → most ≤ many → PutCounts at most counts p q
-  counts_all most many q done few end = let e : most ≡ many = omega arith in rw e done
-
 -- link, marks and counts make an entry
-pub entry-put : (b k at child : ℕ) (summary : Summary) (p q r s : List ℕ) → at ≡ entry_at b k → PutWord at child p q
-    → PutWord (at + entry_marks_at) summary.marks q r
+pub entry-put : (b k at child marks : ℕ) (summary : Summary) (p q r s : List ℕ) → at ≡ entry_at b k → marks ≡ summary.marks
+    → PutWord at child p q → PutWord (at + entry_marks_at) marks q r
     → PutCounts (at + entry_counts_at) most_alphabet summary.counts r s
     → PutEntry b k child summary p s
-entry-put b k at child summary p q r s place link marks counts =
+entry-put b k at child _ summary p q r s place told link marks counts =
     record {
       same =
           outside-then (outside_wider (entry_at b k) entry_size (omega arith) (omega arith) link.same)
           (outside-then (outside_wider (entry_at b k) entry_size (omega arith) (omega arith) marks.same)
           (outside_wider (entry_at b k) entry_size (omega arith) (omega arith) counts.same));
       link = rw place at (word-before counts.same at (omega arith) ∙ word-before marks.same at (omega arith) ∙ link.put);
-      marks = rw place at (word-before counts.same (at + entry_marks_at) (omega arith) ∙ marks.put);
+      marks = rw place at (word-before counts.same (at + entry_marks_at) (omega arith) ∙ marks.put ∙ told);
       counts = rw place at counts.put;
     }
 

@@ -2,7 +2,7 @@
 use mathlib.Core.Path.{◌≡◌, refl, sym, subst}
 use Prim.Native.Nat.{ℕ, zero, suc, ◌-◌, ◌<◌}
 use native.Mathlib.Omega.{arith}
-use Rattle.geometry.specs.Layout.{least_leaf, most_leaf, least_branch, most_branch}
+use Rattle.geometry.specs.Layout.{most_leaf, least_branch, most_branch}
 use Rattle.shape.specs.Sizes.{one_to_a_byte, least, most}
 
 pub at_leaf : (P : ℕ → Type 0) (level : ℕ) → level ≡ 0 → P 0 → P level
@@ -17,9 +17,6 @@ pub level-falls : (level t : ℕ) → level ≡ t → (level ≡ 0 → ⊥) → 
 level-falls level t is branch = at-branch (λ l d. l ≡ t → d < t) level branch (λ h e. omega arith) is
 
 -- a leaf
-pub least-leaf : (h : ℕ) → h ≡ 0 → least_leaf ≡ least one_to_a_byte h
-least-leaf h leaf = at_leaf (λ l. least_leaf ≡ least one_to_a_byte l) h leaf refl
-
 pub most-leaf : (h : ℕ) → h ≡ 0 → most_leaf ≡ most one_to_a_byte h
 most-leaf h leaf = at_leaf (λ l. most_leaf ≡ most one_to_a_byte l) h leaf refl
 

@@ -1,6 +1,4 @@
-pub mod Places
 pub mod Levels
-pub mod Filling
 pub mod Summaries
 pub mod Entries
 pub mod Telling

@@ -18,10 +18,13 @@ pub fn set_entry(pool: &mut [u8], b: usize, k: usize, child: usize, summary: Sum
     ensures { PutEntry b k child summary pool.old pool.new }
 {
     let at = entry_at(b, k);
-    let counts = summary.counts;
     put_word(pool, at, child);
-    put_word(pool, at + Record::ENTRY_MARKS_AT, summary.marks as usize);
-    put_counts(pool, at + Record::ENTRY_COUNTS_AT, counts);
+    put_word(
+        pool,
+        at + Record::ENTRY_MARKS_AT,
+        usize::from(summary.marks),
+    );
+    put_counts(pool, at + Record::ENTRY_COUNTS_AT, summary.counts);
 }
 
 // The words of all symbols' counts, from an address on.
@@ -29,10 +32,8 @@ fn put_counts(pool: &mut [u8], at: usize, counts: [u16; Record::MOST_ALPHABET])
     requires { at + word_size * most_alphabet ≤ length pool.old }
     ensures { PutCounts at most_alphabet counts pool.old pool.new }
 {
-    let mut c = 0;
-    while c < Record::MOST_ALPHABET {
-        put_word(pool, at + Record::WORD_SIZE * c, counts[c] as usize);
-        c += 1;
+    for (c, count) in counts.iter().enumerate() {
+        put_word(pool, at + Record::WORD_SIZE * c, usize::from(*count));
     }
 }
 

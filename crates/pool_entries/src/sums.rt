@@ -1,10 +1,9 @@
 // The summary of a block, from its own bytes: a leaf's marks are counted, a branch's entries added up.
-ghost use Rattle.std.specs.Prelude.{◌≤◌, ◌<◌, ◌≡◌, ◌+◌};
-ghost use Rattle.geometry.specs.Layout.{most_leaf, most_branch};
-ghost use Rattle.geometry.specs.Layout.{most_leaf, most_branch, entry_size, word_size};
-ghost use Rattle.lists.specs.Sums.{sum_below};
+ghost use Rattle.std.specs.Prelude.{◌≡◌, ◌≤◌, ◌<◌};
+ghost use Rattle.geometry.specs.Limits.{most_alphabet};
 ghost use Rattle.pool.specs.Blocks.{entries};
 ghost use Rattle.pool.specs.Bytes.{shares};
+ghost use Rattle.pool.specs.Trees.{own_marks, own_count};
 ghost use Rattle.shape.specs.Sizes.{one_to_a_byte, most};
 ghost use Rattle.pool_entries.specs.Summaries.{SummaryOf, SmallSums};
 
@@ -14,54 +13,49 @@ use crate::reads::entry_count;
 use geometry::Record;
 use pool::block_at;
 use sequence::count_in;
+use std::array;
 
 // The summary of a block of a level.
 pub fn summary_of(pool: &[u8], level: usize, b: usize) -> Summary
     requires { (b < shares pool.now) × (entries pool.now b ≤ most one_to_a_byte level) × SmallSums pool.now level b }
     ensures { SummaryOf pool.now level b result }
 {
+    Summary {
+        marks: own_marks(pool, level, b) as u16,
+        counts: array::from_fn(|symbol| own_count(pool, level, b, symbol) as u16),
+    }
+}
+
+// How many marks a block says it has: a leaf by its size, a branch by its entries.
+fn own_marks(pool: &[u8], level: usize, b: usize) -> usize
+    requires { (b < shares pool.now) × (entries pool.now b ≤ most one_to_a_byte level) }
+    ensures { result ≡ own_marks pool.now level b }
+{
+    let many = entry_count(pool, b);
     if level == 0 {
-        summary_of_leaf(pool, b)
+        many
     } else {
-        summary_of_branch(pool, b)
+        words_before(pool, b, Record::ENTRY_MARKS_AT, many)
     }
 }
 
-// A leaf's, by counting each symbol.
-fn summary_of_leaf(pool: &[u8], b: usize) -> Summary
-    requires { (b < shares pool.now) × (entries pool.now b ≤ most_leaf) }
-    ensures { SummaryOf pool.now 0 b result }
+// How many of them are a symbol: those that stand in a leaf, those that a branch's entries say.
+#[tactic(auto, unfolding(pool::specs::Blocks::leaf_marks))]
+fn own_count(pool: &[u8], level: usize, b: usize, symbol: usize) -> usize
+    requires block { (b < shares pool.now) × (entries pool.now b ≤ most one_to_a_byte level) }
+    requires inside { symbol < most_alphabet }
+    ensures { result ≡ own_count pool.now level b symbol }
 {
     let many = entry_count(pool, b);
-    let at = block_at(b);
-    let mut counts = [0; Record::MOST_ALPHABET];
-    let mut symbol = 0;
-    while symbol < Record::MOST_ALPHABET {
-        counts[symbol] = count_in(pool, at, at + many, symbol as u8) as u16;
-        symbol += 1;
-    }
-    Summary {
-        marks: many as u16,
-        counts,
-    }
-}
-
-// A branch's, by adding up the words of its entries.
-fn summary_of_branch(pool: &[u8], b: usize) -> Summary
-    requires { (b < shares pool.now) × (entries pool.now b ≤ most_branch) × SmallSums pool.now 1 b }
-    ensures { SummaryOf pool.now 1 b result }
-{
-    let many = entry_count(pool, b);
-    let marks = words_before(pool, b, Record::ENTRY_MARKS_AT, many);
-    let mut counts = [0; Record::MOST_ALPHABET];
-    let mut c = 0;
-    while c < Record::MOST_ALPHABET {
-        let offset = Record::ENTRY_COUNTS_AT + Record::WORD_SIZE * c;
-        counts[c] = words_before(pool, b, offset, many) as u16;
-        c += 1;
-    }
-    Summary {
-        marks: marks as u16,
-        counts,
+    if level == 0 {
+        let at = block_at(b);
+        count_in(pool, at, at + many, symbol as u8)
+    } else {
+        words_before(
+            pool,
+            b,
+            Record::ENTRY_COUNTS_AT + Record::WORD_SIZE * symbol,
+            many,
+        )
     }
 }

@@ -2,7 +2,7 @@
 use mathlib.Core.Path.{◌≡◌, refl, ap}
 use mathlib.Core.List.{List}
 use Prim.Native.Nat.{ℕ, suc, ◌+◌, ◌-◌, ◌≤◌, ◌<◌}
-use native.Mathlib.Nat.{le_refl, sub_self}
+use native.Mathlib.Nat.{le_refl}
 use native.Mathlib.Omega.{arith}
 use lib.ListN.{length, get_or, take, drop, length-drop}
 use lib.Seq.{take_all, get_or-drop}
@@ -54,11 +54,6 @@ module _ (c : ℕ) (xs : List ℕ) where
   pub count-stretches : (a b e : ℕ) → a ≤ b → b ≤ e
       → count c (take (e - a) (drop a xs)) ≡ count c (take (b - a) (drop a xs)) + count c (take (e - b) (drop b xs))
   count-stretches a b e h k = measure-stretches (count c) (count-additive c) xs a b e h k
-
-  -- an empty stretch
-  pub count-stretch-none : (a : ℕ) → count c (take (a - a) (drop a xs)) ≡ 0
-  unfolding count
-  count-stretch-none a = rw sub_self
 
   -- a stretch that is one mark longer, at i from 0
   pub count-stretch-step : (a i : ℕ) → a ≤ i → i < length xs

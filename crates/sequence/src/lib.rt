@@ -4,21 +4,16 @@
 ghost use Rattle.std.specs.Prelude.{◌≡◌, ◌-◌, ◌≤◌, length, take, drop};
 ghost use Rattle.sequence.specs.Definition1.{count, select};
 
-// How many of the marks from the index `from` up to, not including, `to` are `symbol`, where these are at most 255.
-// The counter is a byte, so that the compiler counts sixteen marks at once.
-fn count_short(marks: &[u8], from: usize, to: usize, symbol: u8) -> usize
-    requires { (from ≤ to) × (to ≤ length marks.now) × (to - from ≤ 255) }
-    ensures { result ≡ count symbol (take (to - from) (drop from marks.now)) }
+// How many of at most 255 marks are `symbol`. The counter is a byte, so that the compiler counts sixteen marks at once.
+fn count_short(marks: &[u8], symbol: u8) -> usize
+    requires { length marks.now ≤ 255 }
+    ensures { result ≡ count symbol marks.now }
 {
     let mut met: u8 = 0;
-    let mut i = from;
-    while i < to {
-        if marks[i] == symbol {
-            met += 1;
-        }
-        i += 1;
+    for mark in marks {
+        met += u8::from(*mark == symbol);
     }
-    met as usize
+    usize::from(met)
 }
 
 // How many of the marks from the index `from` up to, not including, `to` are `symbol`.
@@ -26,13 +21,11 @@ pub fn count_in(marks: &[u8], from: usize, to: usize, symbol: u8) -> usize
     requires { (from ≤ to) × (to ≤ length marks.now) }
     ensures { result ≡ count symbol (take (to - from) (drop from marks.now)) }
 {
-    let mut met: usize = 0;
-    let mut start = from;
-    while to - start > 255 {
-        met += count_short(marks, start, start + 255, symbol);
-        start += 255;
+    let mut met = 0;
+    for piece in marks[from..to].chunks(255) {
+        met += count_short(piece, symbol);
     }
-    met + count_short(marks, start, to, symbol)
+    met
 }
 
 // The place of the j-th `symbol`: 0 for the 0-th, the number of marks where there are fewer than j.
@@ -40,15 +33,13 @@ pub fn find(marks: &[u8], symbol: u8, j: usize) -> usize
     ensures { result ≡ select symbol marks.now j }
 {
     let mut left = j;
-    let mut place = 0;
-    while place < marks.len() {
+    for (place, mark) in marks.iter().enumerate() {
         if left == 0 {
             return place;
         }
-        if marks[place] == symbol {
+        if *mark == symbol {
             left -= 1;
         }
-        place += 1;
     }
-    place
+    marks.len()
 }

@@ -71,7 +71,7 @@ fn compare_open(
 ) -> io::Result<()>
     requires { OfOpenName pool.now found × (slot_size ≤ length slot.now) }
 {
-    let depth = pool::wide(slot[0]);
+    let depth = usize::from(slot[0]);
     let number = pool::word(slot, NUMBER_AT);
     if found.length as usize != number {
         return tell(rt, name, "its length differs from", number);

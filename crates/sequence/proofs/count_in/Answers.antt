@@ -1,18 +1,12 @@
 use native.Mathlib.Omega.{arith}
-use Rattle.sequence.proofs.Counting.{counted_none, counted-piece, piece-fits, counted-rest, rest-fits}
+use Rattle.sequence.proofs.Counting.{pieces-more, piece-fits, stretch-few, pieces-all}
 use Rattle.sequence.proofs.count_in.Goals as goal
 
-pub loop-start-init : goal.loop-start-init
-loop-start-init c = (omega arith, search counted_none)
-
 pub overflow_add-met : goal.overflow_add-met
-overflow_add-met c = search piece-fits
+overflow_add-met c = search (piece-fits, stretch-few, c.in-Some.ensures.steps)
 
-pub loop-start-preserved : goal.loop-start-preserved
-loop-start-preserved c = (omega arith, search counted-piece)
-
-pub overflow_add-result : goal.overflow_add-result
-overflow_add-result c = search rest-fits
+pub loop-piece-preserved : goal.loop-piece-preserved
+loop-piece-preserved c = (omega (arith, c.in-Some.ensures.steps), tt, omega (arith, c.in-Some.ensures.steps), search (pieces-more, c.in-Some.ensures.steps))
 
 pub returns : goal.returns
-returns c = search counted-rest
+returns c = search (pieces-all, c.in-None.ensures.steps)
