@@ -20,11 +20,9 @@ pub fn close(pool: &mut [u8], name: usize, map: &mut [u8])
 fn free_holder(map: &mut [u8], holder: u8)
     ensures { HolderFreed holder map.old map.new }
 {
-    let mut b = 0;
-    while b < map.len() {
-        if map[b] == holder {
-            map[b] = 0;
+    for held_by in map.iter_mut() {
+        if *held_by == holder {
+            *held_by = 0;
         }
-        b += 1;
     }
 }

@@ -1,5 +1,4 @@
 -- What the queries ask of a name, from what the program has tested.
-use mathlib.Core.Bool.{Bool, true}
 use mathlib.Core.Path.{◌≡◌}
 use mathlib.Core.List.{List}
 use Prim.Native.Nat.{ℕ, ◌≤◌, ◌<◌}
@@ -9,15 +8,10 @@ use Rattle.geometry.specs.Limits.{names}
 use Rattle.geometry.specs.declared.Record.{Record}
 use Rattle.pool.specs.Names.{record_of}
 use Rattle.pool.specs.Sound.{Sound}
-use Rattle.pool_check.specs.Parts.{Checked}
 use Rattle.sequence.specs.Definition1.{count, rank}
 use Rattle.sequence.proofs.Ranks.{rank-le-count}
 use Rattle.tree_query.proofs.Records.{open-by-kind, open-record}
 use Rattle.tree_query.specs.Records.{OfOpenName}
-
--- a pool that the check takes is sound
-pub checked-sound : (p : List ℕ) (r : Bool) (map : List ℕ) → Checked p r map → r ≡ true → Sound p
-checked-sound p r map checked passed = checked.says.sound passed
 
 -- the record of an open name
 pub sound-open : (p : List ℕ) (name : ℕ) (r : Record) → Sound p → name < names → r ≡ record_of p name → (r.kind ≡ kind_closed → ⊥) → OfOpenName p r

@@ -3,5 +3,5 @@ use Rattle.std.proofs.Common.{rules}
 use Rattle.tree_query_cases.proofs.Names.{sound-open}
 use Rattle.tree_query_cases.proofs.compare_name.Goals as goal
 
-pub compare_open-requires : goal.compare_open-requires
-compare_open-requires g c = (search sound-open, search rules)
+pub compare-requires : goal.compare-requires
+compare-requires g c = (search sound-open, search rules)

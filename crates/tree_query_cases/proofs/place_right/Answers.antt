@@ -1,7 +1,0 @@
--- `tree_query_cases::place_right` is safe: a number is selected only where it is the rank at a place, and more than before it.
-use Rattle.std.proofs.Common.{arith, rules}
-use Rattle.tree_query_cases.proofs.Names.{rank-in-count}
-use Rattle.tree_query_cases.proofs.place_right.Goals as goal
-
-pub select-requires-clause-number : goal.select-requires-clause-number
-select-requires-clause-number g c = (search rules, omega arith, search rank-in-count)
