@@ -22,7 +22,7 @@ use Rattle.pool.specs.Words.{word_limit}
 use Rattle.pool.proofs.Changes.{only_wider}
 use Rattle.pool_holders.specs.Maps.{holder_of, is_free, Freed}
 use Rattle.tree_insert.specs.Trees.{TreeReady, TreeInserted}
-use Rattle.tree_insert.specs.declared.tree.Rooted.{Rooted}
+use Rattle.tree_splits.specs.declared.Rooted.{Rooted}
 use Rattle.name_open_close.proofs.ExactMaps.{Turns, entered-turns}
 use Rattle.tree_delete.specs.Removals.{DeleteReady}
 use Rattle.tree_delete.specs.Trees.{TreeDeleted}
@@ -76,7 +76,7 @@ freed-turns holder m n freed x = ⊎_elim (λ same. inl same) (λ zero. inr (inr
 
 module _ (p q m n : List ℕ) (name i : ℕ) (at : DeleteAt p m name i) (g : Removed)
     (del : TreeDeleted (record_of p name).height (record_of p name).root i g p q m n) where
-  delete-changed : TreeChanged name (delete_t one_to_a_byte i (tree_of p name)) g.level g.root p q m n
+  delete-changed : TreeChanged name (delete_t one_to_a_byte i (tree_of p name)) g.tree.level g.tree.root p q m n
   delete-changed =
       record {
         tree = del.tree;
@@ -124,23 +124,20 @@ module _ (p m : List ℕ) (name : ℕ) (old : Record) (is : old ≡ record_of p 
     pub delete-in-ready : DeleteReady p m old.height old.root i
     delete-in-ready = rw is (delete-ready p m name i at)
 
-    pub delete-length : 1 ≤ old.length
-    delete-length = rw is (omega (arith, at.first, at.last))
-
     module _ (g : Removed) (q n : List ℕ) (del : TreeDeleted old.height old.root i g p q m n) where
       deleted-in : TreeDeleted (record_of p name).height (record_of p name).root i g p q m n
       deleted-in = rw is at del
 
-      pub delete-storable : Storable q name g.level g.root
+      pub delete-storable : Storable q name g.tree.level g.tree.root
       delete-storable =
-          storable p q m n name at.within at.opened _ g.level g.root _
+          storable p q m n name at.within at.opened _ g.tree.level g.tree.root _
           (delete-changed p q m n name i at g deleted-in) (delete-fits p q m n name i at g deleted-in)
 
-      pub deleted-at : (r : List ℕ) → PutRecord name (with_tree old g.level g.root (old.length - 1)) q r → DeletedAt name i g.mark p r n
+      pub deleted-at : (r : List ℕ) → PutRecord name (with_tree old g.tree.level g.tree.root (old.length - 1)) q r → DeletedAt name i g.mark p r n
       deleted-at r put =
           record {
             taken = deleted-in.taken;
             updated =
-                tree-stored p q m n name at.within at.opened _ g.level g.root _
+                tree-stored p q m n name at.within at.opened _ g.tree.level g.tree.root _
                 (delete-changed p q m n name i at g deleted-in) (delete-fits p q m n name i at g deleted-in) r (rw is at put) (delete_t one_to_a_byte i) refl;
           }

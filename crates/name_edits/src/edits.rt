@@ -10,13 +10,14 @@ use pool::write_record;
 use pool_holders::holder_of;
 use tree_delete::delete_in_tree;
 use tree_insert::insert_in_tree;
+use tree_splits::Rooted;
 
 // Puts c in at place i of a name, whose record was read. Blocks that its tree takes are entered in the map as the name's.
 pub fn insert(pool: &mut [u8], name: usize, old: Record, i: usize, c: u8, map: &mut [u8])
     requires { InsertAt pool.old map.old name i c × (old ≡ record_of pool.old name) }
     ensures { InsertedAt name i c pool.old pool.new map.new }
 {
-    let rooted = insert_in_tree(
+    let tree = insert_in_tree(
         pool,
         old.height as usize,
         old.root as usize,
@@ -25,7 +26,7 @@ pub fn insert(pool: &mut [u8], name: usize, old: Record, i: usize, c: u8, map: &
         map,
         holder_of(name),
     );
-    put_tree(pool, name, old, rooted.level, rooted.root, old.length + 1);
+    put_tree(pool, name, old, tree, old.length + 1);
 }
 
 // Takes place i out of a name, whose record was read, and answers the mark that stood there. Blocks that leave its tree are free then.
@@ -34,22 +35,20 @@ pub fn delete(pool: &mut [u8], name: usize, old: Record, i: usize, map: &mut [u8
     ensures { DeletedAt name i result pool.old pool.new map.new }
 {
     let removed = delete_in_tree(pool, old.height as usize, old.root as usize, i, map);
-    put_tree(pool, name, old, removed.level, removed.root, old.length - 1);
+    put_tree(pool, name, old, removed.tree, old.length - 1);
     removed.mark
 }
 
 // Writes a name's record with another tree: its root's level, its root block and its number of marks.
-fn put_tree(pool: &mut [u8], name: usize, old: Record, level: usize, root: usize, marks: u16)
-    requires { Storable pool.old name level root }
-    ensures { PutRecord name (with_tree old level root marks) pool.old pool.new }
+fn put_tree(pool: &mut [u8], name: usize, old: Record, tree: Rooted, marks: u16)
+    requires { Storable pool.old name tree.level tree.root }
+    ensures { PutRecord name (with_tree old tree.level tree.root marks) pool.old pool.new }
 {
     let put = Record {
-        kind: old.kind,
-        alphabet: old.alphabet,
-        height: level as u8,
-        q: old.q,
-        root: root as u16,
+        height: tree.level as u8,
+        root: tree.root as u16,
         length: marks,
+        ..old
     };
     write_record(pool, name, put);
 }

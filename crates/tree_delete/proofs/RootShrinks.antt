@@ -33,7 +33,7 @@ shrunk-whole h (x ∷ y ∷ ys) many = refl
 
 -- a leaf stays the root
 leaf-kept : (p m : List ℕ) (b i r : ℕ) (q n : List ℕ) → Deleted 0 b i r p q m n
-    → TreeDeleted 0 b i (record { mark = r; level = 0; root = b }) p q m n
+    → TreeDeleted 0 b i (record { mark = r; tree = record { level = 0; root = b } }) p q m n
 unfolding delete_t shrunk
 leaf-kept p m b i r q n del =
     record {
@@ -48,7 +48,7 @@ leaf-kept p m b i r q n del =
 
 module _ (p m : List ℕ) (h b i r : ℕ) (q n : List ℕ) (del : Deleted (suc h) b i r p q m n) where
   -- a branch with two children at least stays the root
-  branch_kept : 1 < entries q b → TreeDeleted (suc h) b i (record { mark = r; level = suc h; root = b }) p q m n
+  branch_kept : 1 < entries q b → TreeDeleted (suc h) b i (record { mark = r; tree = record { level = suc h; root = b } }) p q m n
   unfolding delete_t
   branch_kept many =
       record {
@@ -78,7 +78,7 @@ module _ (p m : List ℕ) (h b i r : ℕ) (q n : List ℕ) (del : Deleted (suc h
     unfolding sum_below
     blocks-left x = omega (arith, count-blocks q h b x, ap (λ (k : ℕ). sum_below k (λ j. count x (blocks_at q h (link q b j)))) one)
 
-    branch-gone : TreeDeleted (suc h) b i (record { mark = r; level = h; root = link q b 0 }) p q m o
+    branch-gone : TreeDeleted (suc h) b i (record { mark = r; tree = record { level = h; root = link q b 0 } }) p q m o
     unfolding delete_t shrunk
     branch-gone =
         let below = del.tree.below 0 (omega (arith, one)) in
@@ -94,20 +94,20 @@ module _ (p m : List ℕ) (h b i r : ℕ) (q n : List ℕ) (del : Deleted (suc h
 
 -- The same as the code tells levels apart.
 module _ (p m : List ℕ) (level b i r : ℕ) (q n : List ℕ) (del : Deleted level b i r p q m n) where
-  pub root-leaf : level ≡ 0 → TreeDeleted level b i (record { mark = r; level = level; root = b }) p q m n
+  pub root-leaf : level ≡ 0 → TreeDeleted level b i (record { mark = r; tree = record { level = level; root = b } }) p q m n
   root-leaf leaf =
-      at_leaf (λ l. Deleted l b i r p q m n → TreeDeleted l b i (record { mark = r; level = l; root = b }) p q m n) level leaf
+      at_leaf (λ l. Deleted l b i r p q m n → TreeDeleted l b i (record { mark = r; tree = record { level = l; root = b } }) p q m n) level leaf
       (λ del. leaf-kept p m b i r q n del) del
 
   module _ (branch : level ≡ 0 → ⊥) where
-    pub root_kept : 1 < entries q b → TreeDeleted level b i (record { mark = r; level = level; root = b }) p q m n
+    pub root_kept : 1 < entries q b → TreeDeleted level b i (record { mark = r; tree = record { level = level; root = b } }) p q m n
     root_kept more =
-        at-branch (λ l d. Deleted l b i r p q m n → TreeDeleted l b i (record { mark = r; level = l; root = b }) p q m n) level branch
+        at-branch (λ l d. Deleted l b i r p q m n → TreeDeleted l b i (record { mark = r; tree = record { level = l; root = b } }) p q m n) level branch
         (λ h del. branch_kept p m h b i r q n del more) del
 
     pub root-gone : DeleteReady p m level b i → entries q b ≤ 1 → (root : ℕ) → Is (link q b 0) root → (o : List ℕ) → GivenBack b n o
-        → TreeDeleted level b i (record { mark = r; level = level - 1; root = root }) p q m o
+        → TreeDeleted level b i (record { mark = r; tree = record { level = level - 1; root = root } }) p q m o
     root-gone ready few root linked o given =
         rw linked.is
-        (at-branch (λ l d. DeleteReady p m l b i → Deleted l b i r p q m n → TreeDeleted l b i (record { mark = r; level = d; root = link q b 0 }) p q m o) level branch
+        (at-branch (λ l d. DeleteReady p m l b i → Deleted l b i r p q m n → TreeDeleted l b i (record { mark = r; tree = record { level = d; root = link q b 0 } }) p q m o) level branch
         (λ h ready del. branch-gone p m h b i r q n del ready few o given) ready del)

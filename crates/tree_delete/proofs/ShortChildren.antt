@@ -1,8 +1,9 @@
 -- A branch of which one child may be short. If it isn't, nothing is to do; if it is, it and its neighbour are mended, which is what the shape function does.
-use mathlib.Core.Path.{◌≡◌, refl, sym, ap, ap₂, ◌∙◌}
+use mathlib.Core.Path.{◌≡◌, refl, sym, ap, ap₂, subst, ◌∙◌}
 use mathlib.Core.List.{List, [], ◌∷◌, ◌++◌}
 use mathlib.Core.Logic.{⊎_elim}
 use Prim.Native.Nat.{ℕ, zero, suc, ◌+◌, ◌-◌, ◌≤◌, ◌<◌}
+use native.Mathlib.Nat.{eq-zero-or-pos}
 use native.Mathlib.Omega.{arith}
 use lib.ListN.{length, take, drop, length-append}
 use Rattle.lists.proofs.Cuts.{split-two}
@@ -136,7 +137,7 @@ module _ (p m : List ℕ) (h b k : ℕ) (ready : ShortReady p m h b k) where
 
   module _ (q n : List ℕ) (less : entries p (link p b k) < least one_to_a_byte h) where
     -- the first child is short
-    pub mended-first : k ≡ 0 → PairMended h b 0 p q m n → Mended h b p q m n
+    mended-first : k ≡ 0 → PairMended h b 0 p q m n → Mended h b p q m n
     mended-first e mended =
         let s : Node (suc h) = shape_at p (suc h) b in
         let short : length (shape_at p h (link p b 0)) < least one_to_a_byte h = rw e at (short-length less) in
@@ -146,7 +147,7 @@ module _ (p m : List ℕ) (h b k : ℕ) (ready : ShortReady p m h b k) where
         record { shape = mended.shape ∙ sym is; block = mended.block; below = mended.below; blocks = mended.blocks; only = mended.only; freed = mended.freed }
 
     -- a child with a left neighbour is short
-    pub mended-left : (k ≡ 0 → ⊥) → PairMended h b (k - 1) p q m n → Mended h b p q m n
+    mended-left : (k ≡ 0 → ⊥) → PairMended h b (k - 1) p q m n → Mended h b p q m n
     mended-left some mended =
         let s : Node (suc h) = shape_at p (suc h) b in
         let j : ℕ = k - 1 in
@@ -163,22 +164,23 @@ module _ (p m : List ℕ) (h b k : ℕ) (ready : ShortReady p m h b k) where
         (long-enough j (omega arith) (λ (e : j ≡ k). omega arith)) short in
         record { shape = mended.shape ∙ sym is; block = mended.block; below = mended.below; blocks = mended.blocks; only = mended.only; freed = mended.freed }
 
-  pub first-ready : k ≡ 0 → PairReady p m h b 0
-  first-ready e = pair-ready 0 (omega (arith, ready.block.enough)) (omega arith) (omega arith)
-
-  pub left-ready : (k ≡ 0 → ⊥) → PairReady p m h b (k - 1)
-  left-ready some = pair-ready (k - 1) (omega (arith, ready.place)) (omega arith) (omega arith)
+  -- with its left neighbour if it has one, else with its right one
+  pub neighbour-ready : PairReady p m h b (k - 1)
+  neighbour-ready = pair-ready (k - 1) (omega (arith, ready.place, ready.block.enough)) (omega arith) (omega arith)
 
   -- the same by what the code reads: the child, its entries, and how many it has at least
   module _ (child many few : ℕ) (at : Is (link p b k) child) (size : Is (entries p child) many) (lowest : few ≡ least one_to_a_byte h) where
     counted : many ≡ entries p (link p b k)
     counted = size.is ∙ ap (entries p) at.is
 
-    pub first-mended : (q n : List ℕ) → many < few → k ≡ 0 → PairMended h b 0 p q m n → Mended h b p q m n
-    first-mended q n less e mended = mended-first q n (omega (arith, counted)) e mended
-
-    pub left-mended : (q n : List ℕ) → many < few → (k ≡ 0 → ⊥) → PairMended h b (k - 1) p q m n → Mended h b p q m n
-    left-mended q n less some mended = mended-left q n (omega (arith, counted)) some mended
+    pub neighbour-mended : (q n : List ℕ) → many < few → PairMended h b (k - 1) p q m n → Mended h b p q m n
+    neighbour-mended q n less mended =
+        let short : entries p (link p b k) < least one_to_a_byte h = omega (arith, counted) in
+        ⊎_elim
+        (λ (e : k ≡ 0).
+        let first : k - 1 ≡ 0 = omega arith in
+        mended-first q n short e (subst (λ (j : ℕ). PairMended h b j p q m n) first mended))
+        (λ (some : 0 < k). mended-left q n short (λ (e : k ≡ 0). omega arith) mended) (eq-zero-or-pos k)
 
     pub stays-mended : few ≤ many → Mended h b p p m m
     stays-mended enough = child-stays (omega (arith, counted))

@@ -15,11 +15,11 @@ use Rattle.tree_delete.specs.declared.tree.Removed.{Removed}
 pub record TreeDeleted (h b i : ℕ) (r : Removed) (p q m n : List ℕ) : Type 0 where
   -- the mark that stood there
   pub taken : r.mark ≡ access (marks_t (tree_at p h b)) i
-  pub tree : tree_at q r.level r.root ≡ delete_t one_to_a_byte i (tree_at p h b)
-  pub block : SoundBlock q (root_least r.level) r.level r.root
-  pub below : SoundBelow q most_alphabet r.level r.root
+  pub tree : tree_at q r.tree.level r.tree.root ≡ delete_t one_to_a_byte i (tree_at p h b)
+  pub block : SoundBlock q (root_least r.tree.level) r.tree.level r.tree.root
+  pub below : SoundBelow q most_alphabet r.tree.level r.tree.root
   -- a block that left the tree is free, and no other
-  pub blocks : (x : ℕ) → count x (blocks_at q r.level r.root) + is_free n x ≡ count x (blocks_at p h b) + is_free m x
+  pub blocks : (x : ℕ) → count x (blocks_at q r.tree.level r.tree.root) + is_free n x ≡ count x (blocks_at p h b) + is_free m x
   -- no block changed but the tree's, and no byte of the directory
   pub only : Only (λ y. 1 ≤ count y (blocks_at p h b)) p q
   -- the map has the blocks freed, and is otherwise as before

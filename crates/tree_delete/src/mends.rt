@@ -20,10 +20,6 @@ fn mend_child(pool: &mut [u8], level: usize, b: usize, k: usize, map: &mut [u8])
 {
     let child = link(pool, b, k);
     if entry_count(pool, child) < least_entries(level) {
-        if k == 0 {
-            mend_pair(pool, level, b, 0, map);
-        } else {
-            mend_pair(pool, level, b, k - 1, map);
-        }
+        mend_pair(pool, level, b, k.saturating_sub(1), map);
     }
 }

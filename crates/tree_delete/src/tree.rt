@@ -5,13 +5,13 @@ ghost use Rattle.tree_delete.specs.Trees.{TreeDeleted};
 use crate::deletes::delete_in;
 use pool_entries::{entry_count, link};
 use pool_holders::give_back;
+use tree_splits::Rooted;
 
-// The mark taken out, and the tree's root block and its level after that.
+// The mark taken out, and the tree after that.
 #[derive(Clone, Copy)]
 pub struct Removed {
     pub mark: u8,
-    pub level: usize,
-    pub root: usize,
+    pub tree: Rooted,
 }
 
 // Takes place i out of the tree whose root is the block b of a level. A root that is left with one child is free, and the child is the
@@ -21,25 +21,14 @@ pub fn delete_in_tree(pool: &mut [u8], level: usize, b: usize, i: usize, map: &m
     ensures { TreeDeleted level b i result pool.old pool.new map.old map.new }
 {
     let mark = delete_in(pool, level, b, i, map);
-    if level == 0 {
-        return Removed {
-            mark,
-            level,
-            root: b,
-        };
+    if level == 0 || entry_count(pool, b) > 1 {
+        let tree = Rooted { level, root: b };
+        return Removed { mark, tree };
     }
-    if entry_count(pool, b) > 1 {
-        return Removed {
-            mark,
-            level,
-            root: b,
-        };
-    }
-    let root = link(pool, b, 0);
-    give_back(map, b);
-    Removed {
-        mark,
+    let tree = Rooted {
         level: level - 1,
-        root,
-    }
+        root: link(pool, b, 0),
+    };
+    give_back(map, b);
+    Removed { mark, tree }
 }

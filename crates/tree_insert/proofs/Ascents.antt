@@ -1,6 +1,7 @@
 -- One level up: an insert in the child that takes the place, and the branch taking up what it made of it, are the insert in the branch.
 use mathlib.Core.Path.{◌≡◌, sym, ap, ap₂, subst, ◌∙◌}
 use mathlib.Core.Bool.{cond}
+use Rattle.std.specs.Prelude.{Option, None, Some}
 use mathlib.Core.List.{List, [], ◌∷◌, ◌++◌, map}
 use Prim.Native.Nat.{ℕ, suc, ◌+◌, ◌-◌, ◌≤◌, ◌<◌}
 use native.Mathlib.Omega.{arith}
@@ -13,7 +14,7 @@ use Rattle.lists.proofs.Joins.{joined-append, joined-map}
 use Rattle.lists.proofs.Mapped.{all-unmapped, map-append, map-take, map-drop, map-twice}
 use Rattle.lists.specs.Items.{All}
 use Rattle.lists.specs.Joins.{joined}
-use Rattle.sequence.proofs.Counts.{cond-le-one, count-additive}
+use Rattle.sequence.proofs.Counts.{count-additive}
 use Rattle.sequence.specs.Definition1.{is_mark, count}
 use Rattle.shape.proofs.Instances.{one_to_a_byte-proper}
 use Rattle.shape.proofs.Splits.{insert_node-pieces}
@@ -34,8 +35,7 @@ use Rattle.pool_holders.specs.Maps.{is_free}
 use Rattle.pool_holders.proofs.Takes.{entered-then, entered-falls}
 use Rattle.tree_splits.specs.Entries.{TrueEntry, SoundChild}
 use Rattle.tree_splits.specs.Grafts.{TakenUp}
-use Rattle.tree_splits.specs.Inserts.{roots, InsertReady, Inserted}
-use Rattle.tree_splits.specs.declared.Grown.{Grown}
+use Rattle.tree_splits.specs.Inserts.{roots, added, InsertReady, Inserted}
 use Rattle.tree_splits.proofs.GoodEntries.{GoodEntry, shape_in, blocks_in, below-good, shape-entries, blocks-entries}
 use Rattle.tree_splits.proofs.KeptLists.{KeptList, kept-list}
 use Rattle.tree_splits.proofs.SameEntries.{same-entry-list}
@@ -45,6 +45,10 @@ use Rattle.tree_splits.proofs.ChosenChildren.{child-takes, before-total, child-p
 use Rattle.tree_insert.proofs.Descents.{child-splits, child-ready}
 use Rattle.tree_insert.proofs.Regroups.{regrouped-shapes, regrouped-blocks, regrouped-sound}
 use Rattle.tree_insert.proofs.Siblings.{length-roots, insert-same, insert-sound, branch_same}
+
+added-low : (g : Option ℕ) → added g ≤ 1
+added-low None = omega arith
+added-low (Some new) = omega arith
 
 -- The blocks of a branch, around child k.
 module _ (p : List ℕ) (h b k : ℕ) (inside : k < entries p b) (x : ℕ) where
@@ -65,8 +69,8 @@ module _ (p : List ℕ) (h b k : ℕ) (inside : k < entries p b) (x : ℕ) where
       )
 
 module _ (p m : List ℕ) (h b i c holder : ℕ) (ready : InsertReady p m (suc h) b i c holder) (s : Seat) (seated : Seated (marks_below p b) (entries p b) i s)
-    (g : Grown) (q l : List ℕ) (ins : Inserted h (link p b s.k) (i - s.before) c holder g p q m l)
-    (r : Grown) (t n : List ℕ) (up : TakenUp h b s.k (link p b s.k) holder g r q t l n) where
+    (g : Option ℕ) (q l : List ℕ) (ins : Inserted h (link p b s.k) (i - s.before) c holder g p q m l)
+    (r : Option ℕ) (t n : List ℕ) (up : TakenUp h b s.k (link p b s.k) holder g r q t l n) where
   long : length q ≡ length p
   long = ins.only.long
 
@@ -170,7 +174,7 @@ module _ (p m : List ℕ) (h b i c holder : ℕ) (ready : InsertReady p m (suc h
       ∙ ap (λ (k : ℕ). chop most_branch (front ++ (insert_node one_to_a_byte c h (i - k) x ++ back))) (before-total p h b ready.below i s seated)
       ∙ ap (chop most_branch) (sym all-shapes)
 
-  all-length : length all ≡ entries p b + cond g.split 1 0
+  all-length : length all ≡ entries p b + added g
   all-length =
       let front : List (List ℕ) = take s.k (entry_list p b) in
       let back : List (List ℕ) = drop (suc s.k) (entry_list p b) in
@@ -192,7 +196,7 @@ module _ (p m : List ℕ) (h b i c holder : ℕ) (ready : InsertReady p m (suc h
   unfolding all
   shapes-above = regrouped-shapes h b holder r all q t l n up.regrouped kept-all ∙ sym insert-above
 
-  split-above : cond {A = ℕ} r.split 1 0 ≡ cond (divides one_to_a_byte (suc h) i (shape_at p (suc h) b)) 1 0
+  split-above : added r ≡ cond (divides one_to_a_byte (suc h) i (shape_at p (suc h) b)) 1 0
   split-above =
       omega (
         arith,
@@ -209,7 +213,7 @@ module _ (p m : List ℕ) (h b i c holder : ℕ) (ready : InsertReady p m (suc h
         shapes = shapes-above;
         sound =
             regrouped-sound h b holder r all q t l n up.regrouped kept-all (entries p b) (omega (arith, all-length))
-            (omega (arith, all-length, cond-le-one g.split, ready.block.fits));
+            (omega (arith, all-length, added-low g, ready.block.fits));
         blocks = λ x. omega (arith, regrouped-blocks h b holder r all q t l n up.regrouped kept-all x, up.regrouped.blocks x, conserved x);
         only =
             only_then

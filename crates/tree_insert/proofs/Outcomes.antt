@@ -3,6 +3,7 @@ use mathlib.Core.Path.{subst}
 use mathlib.Core.List.{List}
 use Prim.Native.Nat.{ℕ, zero, suc, ◌≤◌, ◌<◌}
 use native.Mathlib.Omega.{arith}
+use Rattle.std.specs.Prelude.{Option}
 use Rattle.lists.proofs.Froms.{from_all}
 use Rattle.lists.proofs.Items.{all_map}
 use Rattle.lists.proofs.Joins.{joined-all, joined-map}
@@ -15,9 +16,8 @@ use Rattle.pool.specs.Sound.{SoundBelow}
 use Rattle.pool.specs.Trees.{shape_at, blocks_at}
 use Rattle.pool_holders.specs.Maps.{Agrees}
 use Rattle.tree_splits.specs.Inserts.{roots, InsertReady, Inserted}
-use Rattle.tree_splits.specs.declared.Grown.{Grown}
 
-module _ (h b i c holder : ℕ) (g : Grown) (p q m n : List ℕ) (ready : InsertReady p m h b i c holder) (ins : Inserted h b i c holder g p q m n) where
+module _ (h b i c holder : ℕ) (g : Option ℕ) (p q m n : List ℕ) (ready : InsertReady p m h b i c holder) (ins : Inserted h b i c holder g p q m n) where
   -- the map agrees with the trees as it did, so no block stands twice
   pub agrees_after : Agrees n (joined (blocks_at q h) (roots g b))
   agrees_after x = omega (arith, ready.agrees x, ins.blocks x)

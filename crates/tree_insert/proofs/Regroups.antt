@@ -1,11 +1,11 @@
 -- A branch whose entries were regrouped, and its half where it was split: their shapes, blocks and soundness, from all entries together.
 use mathlib.Core.Path.{◌≡◌, refl, sym, ap, subst, ◌∙◌}
-use mathlib.Core.Bool.{cond}
 use mathlib.Core.List.{List, [], ◌∷◌, map}
 use Prim.Native.Nat.{ℕ, suc, ◌+◌, ◌≤◌, ◌<◌}
 use native.Mathlib.Omega.{arith}
 use lib.ListN.{length, length-map}
-use Rattle.geometry.specs.Layout.{form_marks, least_branch, most_branch}
+use Rattle.std.specs.Prelude.{Option}
+use Rattle.geometry.specs.Layout.{form_marks, most_branch}
 use Rattle.geometry.specs.Limits.{most_alphabet}
 use Rattle.lists.proofs.Items.{all_both}
 use Rattle.lists.proofs.Joins.{joined-append}
@@ -25,7 +25,6 @@ use Rattle.pool_blocks.proofs.Branches.{entries-length}
 use Rattle.pool_blocks.specs.Contents.{entry_list}
 use Rattle.tree_splits.specs.Grafts.{Regrouped}
 use Rattle.tree_splits.specs.Inserts.{roots, least_after}
-use Rattle.tree_splits.specs.declared.Grown.{Grown}
 use Rattle.tree_splits.proofs.GoodEntries.{GoodEntry, shape_in, blocks_in, good-below, shape-entries, blocks-entries}
 use Rattle.tree_splits.proofs.KeptLists.{KeptList}
 use Rattle.tree_splits.proofs.Pieces.{map-chop, all-chop, chop-sizes}
@@ -48,7 +47,7 @@ module _ (t : List ℕ) (h : ℕ) where
         branch-blocks x ys,
       )
 
-module _ (h b holder : ℕ) (r : Grown) (all : List (List ℕ)) (q t m n : List ℕ) (regrouped : Regrouped b holder r all q t m n) (kept : KeptList q t h all) where
+module _ (h b holder : ℕ) (r : Option ℕ) (all : List (List ℕ)) (q t m n : List ℕ) (regrouped : Regrouped b holder r all q t m n) (kept : KeptList q t h all) where
   pub regrouped-shapes : map (shape_at t (suc h)) (roots r b) ≡ chop most_branch (map (shape_in q h) all)
   regrouped-shapes =
       branch-shapes t h (roots r b) ∙ ap (map (map (shape_in t h))) regrouped.lists ∙ map-chop (shape_in t h) most_branch all
@@ -61,11 +60,11 @@ module _ (h b holder : ℕ) (r : Grown) (all : List (List ℕ)) (q t m n : List 
       omega (arith, branch-blocks t h x (roots r b), ap (count x) e)
 
   module _ (fewest : ℕ) (low : fewest ≤ length all) (high : length all ≤ most_branch + 1) where
-    sizes : All (λ y. Within (cond r.split least_branch fewest) most_branch (length (entry_list t y))) (roots r b)
+    sizes : All (λ y. Within (least_after r (suc h) fewest) most_branch (length (entry_list t y))) (roots r b)
     sizes =
-        all-unmapped (entry_list t) (λ es. Within (cond r.split least_branch fewest) most_branch (length es)) (roots r b)
-        (subst (All (λ es. Within (cond r.split least_branch fewest) most_branch (length es))) (sym regrouped.lists)
-        (chop-sizes fewest r.split all low high
+        all-unmapped (entry_list t) (λ es. Within (least_after r (suc h) fewest) most_branch (length es)) (roots r b)
+        (subst (All (λ es. Within (least_after r (suc h) fewest) most_branch (length es))) (sym regrouped.lists)
+        (chop-sizes h fewest r all low high
         (ap length (sym regrouped.lists) ∙ length-map (roots r b) (entry_list t) ∙ length-roots r b)))
 
     goods : All (λ y. All (GoodEntry t h) (entry_list t y)) (roots r b)
@@ -75,7 +74,7 @@ module _ (h b holder : ℕ) (r : Grown) (all : List (List ℕ)) (q t m n : List 
 
     pub regrouped-sound : All (λ y. SoundBlock t (least_after r (suc h) fewest) (suc h) y × SoundBelow t most_alphabet (suc h) y) (roots r b)
     regrouped-sound =
-        all_both (λ y. (y < shares t) × (form_of t y ≡ form_marks)) (λ y. Within (cond r.split least_branch fewest) most_branch (length (entry_list t y)) × All (GoodEntry t h) (entry_list t y))
+        all_both (λ y. (y < shares t) × (form_of t y ≡ form_marks)) (λ y. Within (least_after r (suc h) fewest) most_branch (length (entry_list t y)) × All (GoodEntry t h) (entry_list t y))
         (λ y. SoundBlock t (least_after r (suc h) fewest) (suc h) y × SoundBelow t most_alphabet (suc h) y)
         (λ y a w. (
           record {
@@ -88,5 +87,5 @@ module _ (h b holder : ℕ) (r : Grown) (all : List (List ℕ)) (q t m n : List 
         ))
         (roots r b)
         (all_both (λ y. y < shares t) (λ y. form_of t y ≡ form_marks) (λ y. (y < shares t) × (form_of t y ≡ form_marks)) (λ y a f. (a, f)) (roots r b) regrouped.inside regrouped.forms)
-        (all_both (λ y. Within (cond r.split least_branch fewest) most_branch (length (entry_list t y))) (λ y. All (GoodEntry t h) (entry_list t y))
-        (λ y. Within (cond r.split least_branch fewest) most_branch (length (entry_list t y)) × All (GoodEntry t h) (entry_list t y)) (λ y w g. (w, g)) (roots r b) sizes goods)
+        (all_both (λ y. Within (least_after r (suc h) fewest) most_branch (length (entry_list t y))) (λ y. All (GoodEntry t h) (entry_list t y))
+        (λ y. Within (least_after r (suc h) fewest) most_branch (length (entry_list t y)) × All (GoodEntry t h) (entry_list t y)) (λ y w g. (w, g)) (roots r b) sizes goods)

@@ -1,11 +1,12 @@
 -- After the insert in a child: the branch itself and the trees of the other children are as before, and the branch can take up what the insert made of the child.
 use mathlib.Core.Path.{◌≡◌, refl, sym, ap, ap₂, ◌∙◌}
-use mathlib.Core.Bool.{Bool, true, false, cond, ◌&&◌}
-use mathlib.Core.List.{List, [], ◌∷◌}
+use mathlib.Core.Bool.{cond, ◌&&◌}
+use mathlib.Core.List.{List}
 use Prim.Native.Nat.{ℕ, suc, ◌+◌, ◌-◌, ◌≤◌, ◌<◌}
 use native.Mathlib.Omega.{arith}
 use lib.Dec.{leb}
 use lib.ListN.{length, length-map, length-append}
+use Rattle.std.specs.Prelude.{Option, None, Some}
 use Rattle.geometry.specs.Layout.{most_branch}
 use Rattle.geometry.specs.Limits.{most_alphabet}
 use Rattle.lists.proofs.Items.{all_map}
@@ -38,8 +39,7 @@ use Rattle.pool_holders.proofs.Maps.{fits_after}
 use Rattle.pool_holders.proofs.Takes.{entered-falls}
 use Rattle.tree_splits.specs.Entries.{SoundChild}
 use Rattle.tree_splits.specs.Grafts.{TakeUpReady}
-use Rattle.tree_splits.specs.Inserts.{roots, least_after, InsertReady, Inserted}
-use Rattle.tree_splits.specs.declared.Grown.{Grown}
+use Rattle.tree_splits.specs.Inserts.{roots, added, least_after, InsertReady, Inserted}
 use Rattle.tree_splits.proofs.SoundBlocks.{block-least}
 use Rattle.tree_splits.proofs.Pieces.{room-step}
 use Rattle.pool_entries.specs.Seats.{Seated}
@@ -48,22 +48,16 @@ use Rattle.tree_splits.proofs.ChosenChildren.{child-blocks, child-takes, before-
 use Rattle.tree_insert.proofs.Descents.{child-splits, child-ready}
 
 -- how many roots there are
-pub length-roots : (g : Grown) (b : ℕ) → length (roots g b) ≡ suc (cond g.split 1 0)
-length-roots g b = go g.split
-  where
-    go : (s : Bool) → length (cond s (b ∷ g.new ∷ []) (b ∷ [])) ≡ suc (cond s 1 0)
-    go true = refl
-    go false = refl
+pub length-roots : (g : Option ℕ) (b : ℕ) → length (roots g b) ≡ suc (added g)
+length-roots None b = refl
+length-roots (Some new) b = refl
 
-least-after : (g : Grown) (h before : ℕ) → least one_to_a_byte h ≤ before → least one_to_a_byte h ≤ least_after g h before
-least-after g h before low = go g.split
-  where
-    go : (s : Bool) → least one_to_a_byte h ≤ cond s (least one_to_a_byte h) before
-    go true = omega arith
-    go false = low
+least-after : (g : Option ℕ) (h before : ℕ) → least one_to_a_byte h ≤ before → least one_to_a_byte h ≤ least_after g h before
+least-after None h before low = low
+least-after (Some new) h before low = omega arith
 
 -- An insert at any level, as it was made.
-module _ (h b i c holder : ℕ) (g : Grown) (p q m n : List ℕ) (ready : InsertReady p m h b i c holder) (ins : Inserted h b i c holder g p q m n) where
+module _ (h b i c holder : ℕ) (g : Option ℕ) (p q m n : List ℕ) (ready : InsertReady p m h b i c holder) (ins : Inserted h b i c holder g p q m n) where
   -- a block that is neither the tree's nor free is as before
   pub insert-same : (x : ℕ) → count x (blocks_at p h b) ≡ 0 → is_free m x ≡ 0 → SameBlock x p q
   insert-same x none held =
@@ -83,7 +77,7 @@ module _ (h b i c holder : ℕ) (g : Grown) (p q m n : List ℕ) (ready : Insert
       ∙ ap μ (insert_node-marks one_to_a_byte c h i (shape_at p h b))
 
   -- the block was split where the shape function says so
-  pub insert-split : cond {A = ℕ} g.split 1 0 ≡ cond (divides one_to_a_byte h i (shape_at p h b)) 1 0
+  pub insert-split : added g ≡ cond (divides one_to_a_byte h i (shape_at p h b)) 1 0
   insert-split =
       omega (
         arith,
@@ -102,7 +96,7 @@ module _ (h b i c holder : ℕ) (g : Grown) (p q m n : List ℕ) (ready : Insert
       (roots g b) ins.sound
 
 module _ (p m : List ℕ) (h b i c holder : ℕ) (ready : InsertReady p m (suc h) b i c holder) (s : Seat) (seated : Seated (marks_below p b) (entries p b) i s) where
-  module _ (g : Grown) (q n : List ℕ) (ins : Inserted h (link p b s.k) (i - s.before) c holder g p q m n) where
+  module _ (g : Option ℕ) (q n : List ℕ) (ins : Inserted h (link p b s.k) (i - s.before) c holder g p q m n) where
     below : InsertReady p m h (link p b s.k) (i - s.before) c holder
     below = child-ready p m h b i c holder ready s seated
 
@@ -160,7 +154,7 @@ module _ (p m : List ℕ) (h b i c holder : ℕ) (ready : InsertReady p m (suc h
               omega (
                 arith,
                 many,
-                room-step g.split (divides one_to_a_byte h (i - s.before) (shape_at p h (link p b s.k))) (entries p b) (free_in n) ready.block.fits
+                room-step g (divides one_to_a_byte h (i - s.before) (shape_at p h (link p b s.k))) (entries p b) (free_in n) ready.block.fits
                     (insert-split h (link p b s.k) (i - s.before) c holder g p q m n below ins) (rw divides-child at one),
               );
         }

@@ -12,7 +12,7 @@ use Rattle.pool.specs.Sound.{SoundBlock, SoundBelow}
 use Rattle.pool.specs.Trees.{tree_at, blocks_at, path_at}
 use Rattle.pool_holders.specs.Maps.{is_free, free_in, Entered}
 use Rattle.tree_splits.specs.Inserts.{InsertReady}
-use Rattle.tree_insert.specs.declared.tree.Rooted.{Rooted}
+use Rattle.tree_splits.specs.declared.Rooted.{Rooted}
 
 -- a mark c can be put in at place i: there are as many free blocks as the insert adds to the tree, and no more are asked for
 pub record TreeReady (p m : List ℕ) (h b i c holder : ℕ) : Type 0 where

@@ -5,4 +5,4 @@ mod descent;
 mod insert;
 mod tree;
 
-pub use tree::{Rooted, insert_in_tree};
+pub use tree::insert_in_tree;

@@ -2,14 +2,7 @@
 ghost use Rattle.tree_insert.specs.Trees.{TreeReady, TreeInserted};
 
 use crate::insert::insert_in;
-use tree_splits::grow_root;
-
-// A tree's root block and its level.
-#[derive(Clone, Copy)]
-pub struct Rooted {
-    pub level: usize,
-    pub root: usize,
-}
+use tree_splits::{Rooted, grow_root};
 
 // Puts c in at place i of the tree whose root is the block b of a level.
 pub fn insert_in_tree(
@@ -24,13 +17,11 @@ pub fn insert_in_tree(
     requires { TreeReady pool.old map.old level b i c holder }
     ensures { TreeInserted level b i c holder result pool.old pool.new map.old map.new }
 {
-    let grown = insert_in(pool, level, b, i, c, map, holder);
-    if grown.split {
-        let root = grow_root(pool, level, b, grown.new, map, holder);
-        return Rooted {
+    match insert_in(pool, level, b, i, c, map, holder) {
+        None => Rooted { level, root: b },
+        Some(new) => Rooted {
             level: level + 1,
-            root,
-        };
+            root: grow_root(pool, level, b, new, map, holder),
+        },
     }
-    Rooted { level, root: b }
 }

@@ -1,11 +1,11 @@
 -- An entry more for a branch, with room or with a split: the branch's entries are chopped as the shape function chops them.
 use mathlib.Core.Path.{◌≡◌, refl, sym, ap, ◌∙◌}
-use mathlib.Core.Bool.{true, false}
 use mathlib.Core.List.{List, [], ◌∷◌}
 use mathlib.Core.Logic.{⊎_elim}
 use Prim.Native.Nat.{ℕ, ◌+◌, ◌≤◌, ◌<◌}
 use native.Mathlib.Omega.{arith}
 use lib.ListN.{length, take, drop, length-append, length-take, length-drop}
+use Rattle.std.specs.Prelude.{None, Some}
 use Rattle.geometry.specs.Layout.{form_marks, most_branch}
 use Rattle.sequence.proofs.Counts.{is_mark-same}
 use Rattle.sequence.specs.Definition1.{count}
@@ -28,7 +28,7 @@ length-put_at k x xs place = omega (arith, length-append (take k xs) (x ∷ drop
 
 -- nothing taken: one branch is written
 pub kept-regrouped : (b holder : ℕ) (all : List (List ℕ)) (p q m : List ℕ) → BranchAt p b → Only (λ x. x ≡ b) p q → form_of q b ≡ form_marks
-    → entry_list q b ≡ all → length all ≤ most_branch → Regrouped b holder (record { split = false; new = 0 }) all p q m m
+    → entry_list q b ≡ all → length all ≤ most_branch → Regrouped b holder None all p q m m
 unfolding count
 kept-regrouped b holder all p q m branch only form list fits =
     record {
@@ -43,7 +43,7 @@ kept-regrouped b holder all p q m branch only form list fits =
 
 module _ (p m : List ℕ) (b k child holder : ℕ) (ready : GraftReady p m b k child holder) where
   pub graft-kept : (many : ℕ) → Is (entries p b) many → many < most_branch → (summary : Summary) (q : List ℕ) → EntryPut b k child summary p q
-      → Grafted b k child holder summary (record { split = false; new = 0 }) p q m m
+      → Grafted b k child holder summary None p q m m
   graft-kept many size room summary q put =
       let place : k ≤ length (entry_list p b) = omega (arith, ready.place, entries-length p b) in
       record {
@@ -62,7 +62,7 @@ module _ (p m : List ℕ) (b k child holder : ℕ) (ready : GraftReady p m b k c
     new-other e = omega (arith, ready.held, taken_free holder new m n ready.named taken, ap (is_free m) e)
 
     pub graft-parted : (many : ℕ) → Is (entries p b) many → most_branch ≤ many → (summary : Summary) (q : List ℕ) → BranchSplit b new k child summary p q
-        → Grafted b k child holder summary (record { split = true; new = new }) p q m n
+        → Grafted b k child holder summary (Some new) p q m n
     unfolding count
     graft-parted many size full summary q split =
         let named : 0 < holder = ready.named in

@@ -2,10 +2,10 @@
 use mathlib.Core.Path.{◌≡◌, refl, sym, ap, subst, ◌∙◌}
 use mathlib.Core.List.{List, [], ◌∷◌}
 use mathlib.Core.Logic.{⊎_elim}
-use mathlib.Core.Bool.{true, false}
 use Prim.Native.Nat.{ℕ, zero, ◌+◌, ◌≤◌, ◌<◌}
 use native.Mathlib.Omega.{arith}
 use lib.ListN.{length}
+use Rattle.std.specs.Prelude.{None, Some}
 use Rattle.geometry.specs.Layout.{most_leaf}
 use Rattle.geometry.specs.Limits.{most_alphabet}
 use Rattle.lists.proofs.Items.{all_left, all_right}
@@ -71,7 +71,7 @@ module _ (b i c holder : ℕ) (p m : List ℕ) (ready : InsertReady p m 0 b i c 
   leaf_room many size room = omega (arith, size.is, ready-size)
 
   pub leaf-kept : (many : ℕ) → Is (entries p b) many → many < most_leaf → (q : List ℕ) → MarkInserted b i c p q
-      → Inserted 0 b i c holder (record { split = false; new = 0 }) p q m m
+      → Inserted 0 b i c holder None p q m m
   unfolding insert_node
   leaf-kept many size room q put =
       record {
@@ -101,7 +101,7 @@ module _ (b i c holder : ℕ) (p m : List ℕ) (ready : InsertReady p m 0 b i c 
 
     -- split: the leaf and the block taken are written
     pub leaf-parted : (many : ℕ) → Is (entries p b) many → most_leaf ≤ many → (q : List ℕ) → LeafSplit b new i c p q
-        → Inserted 0 b i c holder (record { split = true; new = new }) p q m n
+        → Inserted 0 b i c holder (Some new) p q m n
     unfolding count
     leaf-parted many size full q split =
         let named : 0 < holder = ready.named in

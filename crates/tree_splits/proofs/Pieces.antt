@@ -6,6 +6,7 @@ use Prim.Native.Nat.{ℕ, suc, ◌+◌, ◌/◌, ◌≤◌, ◌<◌}
 use native.Mathlib.Omega.{arith}
 use lib.Dec.{leb}
 use lib.ListN.{length, length-map, length-take, length-drop}
+use Rattle.std.specs.Prelude.{Option, None, Some}
 use Rattle.geometry.specs.Layout.{least_branch, most_branch}
 use Rattle.lists.proofs.Items.{all_take, all_drop}
 use Rattle.lists.proofs.Mapped.{map-drop, map-take}
@@ -14,6 +15,7 @@ use Rattle.shape.proofs.Choice.{by-leb}
 use Rattle.shape.proofs.Chop.{by-chop, chop-fits, chop-halves}
 use Rattle.shape.specs.Fill.{Within}
 use Rattle.shape.specs.Level.{middle, halves, chop}
+use Rattle.tree_splits.specs.Inserts.{added, least_after}
 
 module _ {A B : Type 0} (f : A → B) where
   map-halves : (xs : List A) → map (map f) (halves xs) ≡ halves (map f xs)
@@ -36,21 +38,21 @@ module _ {A : Type 0} where
       by-chop most xs (λ ps. All (All P) ps) (λ _. (p, tt)) (λ _. (all_take P (middle xs) xs p, (all_drop P (middle xs) xs p, tt)))
 
   -- how long the pieces of a branch are that got one entry more at most
-  pub chop-sizes : (fewest : ℕ) (s : Bool) (xs : List A) → fewest ≤ length xs → length xs ≤ most_branch + 1 → length (chop most_branch xs) ≡ suc (cond s 1 0)
-      → All (λ ys. Within (cond s least_branch fewest) most_branch (length ys)) (chop most_branch xs)
+  pub chop-sizes : (h fewest : ℕ) (g : Option ℕ) (xs : List A) → fewest ≤ length xs → length xs ≤ most_branch + 1 → length (chop most_branch xs) ≡ suc (added g)
+      → All (λ ys. Within (least_after g (suc h) fewest) most_branch (length ys)) (chop most_branch xs)
   unfolding halves
-  chop-sizes fewest true xs low high two =
+  chop-sizes h fewest (Some new) xs low high two =
       by-chop most_branch xs (λ ps. length ps ≡ 2 → All (λ ys. Within least_branch most_branch (length ys)) ps)
       (λ fits (e : 1 ≡ 2). absurd (omega arith))
       (λ more e. (omega (arith, length-take (middle xs) xs), (omega (arith, length-drop (middle xs) xs), tt))) two
-  chop-sizes fewest false xs low high one =
+  chop-sizes h fewest None xs low high one =
       by-chop most_branch xs (λ ps. length ps ≡ 1 → All (λ ys. Within fewest most_branch (length ys)) ps)
       (λ fits e. (omega arith, tt))
       (λ more (e : 2 ≡ 1). absurd (omega arith)) one
 
 -- a branch that gets one entry more where its child is split has room for it, or there is a free block
-pub room-step : (s d : Bool) (many free : ℕ) → many ≤ most_branch → cond {A = ℕ} s 1 0 ≡ cond d 1 0 → cond (d && leb most_branch many) 1 0 ≤ free
-    → many + cond s 1 0 ≤ most_branch + free
-room-step s true many free fits e room =
-    by-leb (λ (z : ℕ). z ≤ free → many + cond s 1 0 ≤ most_branch + free) most_branch many 1 0 (λ full r. omega arith) (λ less r. omega arith) room
-room-step s false many free fits e room = omega arith
+pub room-step : (g : Option ℕ) (d : Bool) (many free : ℕ) → many ≤ most_branch → added g ≡ cond d 1 0 → cond (d && leb most_branch many) 1 0 ≤ free
+    → many + added g ≤ most_branch + free
+room-step g true many free fits e room =
+    by-leb (λ (z : ℕ). z ≤ free → many + added g ≤ most_branch + free) most_branch many 1 0 (λ full r. omega arith) (λ less r. omega arith) room
+room-step g false many free fits e room = omega arith

@@ -1,12 +1,12 @@
 -- A branch takes up what an insert made of a child: an entry that says one mark more, or two entries written with the summaries of the pieces.
 use mathlib.Core.Path.{◌≡◌, refl, sym, ap, ap₂, ◌∙◌}
-use mathlib.Core.Bool.{Bool, true, false, cond}
 use mathlib.Core.List.{List, [], ◌∷◌, ◌++◌}
 use mathlib.Core.Logic.{⊎_elim}
 use Prim.Native.Nat.{ℕ, zero, suc, ◌+◌, ◌<◌}
 use native.Mathlib.Numerals.{add-one}
 use native.Mathlib.Omega.{arith}
 use lib.ListN.{length, take, drop, length-take}
+use Rattle.std.specs.Prelude.{Option, None, Some}
 use Rattle.geometry.specs.Layout.{most_branch}
 use Rattle.geometry.specs.Limits.{most_alphabet}
 use Rattle.sequence.proofs.Counts.{is_mark-same, is_mark-other, is_mark-cases, count-le-length}
@@ -28,18 +28,9 @@ use Rattle.pool_entries.specs.Summaries.{SummaryOf, SmallSums}
 use Rattle.pool_entries.specs.declared.Summary.{Summary}
 use Rattle.pool_holders.proofs.Maps.{fits_after}
 use Rattle.tree_splits.specs.Entries.{put_at, EntryHolds, TrueEntry, SoundChild}
-use Rattle.tree_splits.specs.Grafts.{GraftReady, Regrouped, Grafted, TakeUpReady, halved, SplitReady, TakenUp}
-use Rattle.tree_splits.specs.Inserts.{roots}
-use Rattle.tree_splits.specs.declared.Grown.{Grown}
+use Rattle.tree_splits.specs.Grafts.{GraftReady, Regrouped, Grafted, TakeUpReady, SplitReady, TakenUp}
 use Rattle.tree_splits.proofs.EntryPuts.{entry-holds}
 use Rattle.tree_splits.proofs.Grafts.{kept-regrouped}
-
--- the roots, by whether there was a split
-pub roots-one : (g : Grown) (b : ℕ) → g.split ≡ false → roots g b ≡ b ∷ []
-roots-one g b e = ap (λ (s : Bool). cond s (b ∷ g.new ∷ []) (b ∷ [])) e
-
-pub roots-two : (g : Grown) (b : ℕ) → g.split ≡ true → roots g b ≡ b ∷ g.new ∷ []
-roots-two g b e = ap (λ (s : Bool). cond s (b ∷ g.new ∷ []) (b ∷ [])) e
 
 -- an entry behind the one in the middle
 put_at-behind : {A : Type 0} (xs : List A) (y z : A) (ys : List A) (k : ℕ) → length xs ≡ k → put_at (suc k) z (xs ++ y ∷ ys) ≡ xs ++ y ∷ z ∷ ys
@@ -61,51 +52,50 @@ pub sums-small : (p : List ℕ) (h child : ℕ) → SoundChild p h child → mar
 sums-small p h child sound few =
     small-sums p h child (flat h (shape_at p h child)) (own-marks p most_alphabet _ h child sound.0 sound.1) (λ c inside. own-count p most_alphabet h child c inside sound.1) few
 
-module _ (p m : List ℕ) (h b k child c holder : ℕ) (g : Grown) (ready : TakeUpReady p m h b k child c holder g) where
+-- the child stays whole: an entry adjusted by a mark
+module _ (p m : List ℕ) (h b k child c holder : ℕ) (ready : TakeUpReady p m h b k child c holder None) where
   place-low : k < most_branch
   place-low = omega (arith, ready.place, ready.branch.fits)
 
-  -- the child stays whole: an entry adjusted by a mark
-  module _ (whole : g.split ≡ false) where
-    one-marks : marks_in h (shape_at p h child) ≡ marks_below p b k + 1
-    one-marks = omega (arith, rw (roots-one g child whole) at ready.marks)
+  one-marks : marks_in h (shape_at p h child) ≡ marks_below p b k + 1
+  one-marks = omega (arith, ready.marks)
 
-    one-counts : (d : ℕ) → d < most_alphabet → count d (flat h (shape_at p h child)) ≡ count_below p b k d + is_mark d c
-    one-counts d inside = omega (arith, rw (roots-one g child whole) at (ready.counts d inside))
+  one-counts : (d : ℕ) → d < most_alphabet → count d (flat h (shape_at p h child)) ≡ count_below p b k d + is_mark d c
+  one-counts d inside = omega (arith, ready.counts d inside)
 
-    pub add-ready : ((b < shares p) × (k < most_branch) × (c < most_alphabet)) × ((marks_below p b k + 1 < word_limit) × (count_below p b k c + 1 < word_limit))
-    add-ready = (
-      (ready.branch.inside, place-low, ready.symbol),
-      (ready.short, omega (arith, ready.short, one-marks, one-counts c ready.symbol, is_mark-same c c refl, count-le-length c (flat h (shape_at p h child)))),
-    )
+  pub add-ready : ((b < shares p) × (k < most_branch) × (c < most_alphabet)) × ((marks_below p b k + 1 < word_limit) × (count_below p b k c + 1 < word_limit))
+  add-ready = (
+    (ready.branch.inside, place-low, ready.symbol),
+    (ready.short, omega (arith, ready.short, one-marks, one-counts c ready.symbol, is_mark-same c c refl, count-le-length c (flat h (shape_at p h child)))),
+  )
 
-    pub taken-up-one : (q : List ℕ) → AddMark b k c p q → TakenUp h b k child holder g (record { split = false; new = 0 }) p q m m
-    taken-up-one q put =
-        let es : List (List ℕ) = entry_list p b in
-        let e : List ℕ = entry_bytes q b k in
-        let links : link_in e ≡ child = entry-link q b k ∙ put.link ∙ ready.link in
-        let list : entry_list q b ≡ take k es ++ e ∷ drop (suc k) es = entry-written p q b k ready.branch ready.place put.same in
-        record {
-          fresh = e ∷ [];
-          links = ap (λ (x : ℕ). x ∷ []) links ∙ sym (roots-one g child whole);
-          true = (
-            record {
-              marks = rw links (entry-below q b k ∙ put.marks ∙ sym one-marks);
-              counts = λ d inside.
-                  rw links
-                  (entry-count q b k d inside
-                  ∙ ⊎_elim
-                  (λ w. rw w.0 (put.count ∙ omega (arith, one-counts c ready.symbol, is_mark-same c c refl)))
-                  (λ w. put.others d inside w.0 ∙ omega (arith, one-counts d inside, is_mark-other d c (λ s. w.0 (sym s))))
-                  (is_mark-cases c d));
-            },
-            tt,
-          );
-          regrouped =
-              kept-regrouped b holder (take k es ++ (e ∷ drop (suc k) es)) p q m ready.branch (only-entry b k put.same place-low)
-              (form-kept b k put.same place-low ∙ ready.form) list
-              (omega (arith, ap length list, entries-length q b, entries-kept b k put.same place-low, ready.branch.fits));
-        }
+  pub taken-up-one : (q : List ℕ) → AddMark b k c p q → TakenUp h b k child holder None None p q m m
+  taken-up-one q put =
+      let es : List (List ℕ) = entry_list p b in
+      let e : List ℕ = entry_bytes q b k in
+      let links : link_in e ≡ child = entry-link q b k ∙ put.link ∙ ready.link in
+      let list : entry_list q b ≡ take k es ++ e ∷ drop (suc k) es = entry-written p q b k ready.branch ready.place put.same in
+      record {
+        fresh = e ∷ [];
+        links = ap (λ (x : ℕ). x ∷ []) links;
+        true = (
+          record {
+            marks = rw links (entry-below q b k ∙ put.marks ∙ sym one-marks);
+            counts = λ d inside.
+                rw links
+                (entry-count q b k d inside
+                ∙ ⊎_elim
+                (λ w. rw w.0 (put.count ∙ omega (arith, one-counts c ready.symbol, is_mark-same c c refl)))
+                (λ w. put.others d inside w.0 ∙ omega (arith, one-counts d inside, is_mark-other d c (λ s. w.0 (sym s))))
+                (is_mark-cases c d));
+          },
+          tt,
+        );
+        regrouped =
+            kept-regrouped b holder (take k es ++ (e ∷ drop (suc k) es)) p q m ready.branch (only-entry b k put.same place-low)
+            (form-kept b k put.same place-low ∙ ready.form) list
+            (omega (arith, ap length list, entries-length q b, entries-kept b k put.same place-low, ready.branch.fits));
+      }
 
 -- the child was split: two entries written
 module _ (p m : List ℕ) (h b k child new holder : ℕ) (split : SplitReady p m h b k child new holder) where
@@ -113,7 +103,7 @@ module _ (p m : List ℕ) (h b k child new holder : ℕ) (split : SplitReady p m
   two-sound = (split.ready.sound.0, split.ready.sound.1.0)
 
   low : k < most_branch
-  low = place-low p m h b k child split.symbol holder (halved new) split.ready
+  low = omega (arith, split.ready.place, split.ready.branch.fits)
 
   two-marks : marks_in h (shape_at p h child) + marks_in h (shape_at p h new) ≡ marks_below p b k + 1
   two-marks = omega (arith, split.ready.marks)
@@ -141,8 +131,8 @@ module _ (p m : List ℕ) (h b k child new holder : ℕ) (split : SplitReady p m
           room = omega (arith, many, split.ready.room);
         }
 
-    pub taken-up-two : (right : Summary) → SummaryOf p h child left → SummaryOf p h new right → (r : Grown) (t n : List ℕ)
-        → Grafted b (k + 1) new holder right r q t m n → TakenUp h b k child holder (halved new) r p t m n
+    pub taken-up-two : (right : Summary) → SummaryOf p h child left → SummaryOf p h new right → (r : Option ℕ) (t n : List ℕ)
+        → Grafted b (k + 1) new holder right r q t m n → TakenUp h b k child holder (Some new) r p t m n
     taken-up-two right left_of right_of r t n grafted =
         let es : List (List ℕ) = entry_list p b in
         let e : List ℕ = entry_bytes q b k in

@@ -1,5 +1,5 @@
 -- A branch takes up what an edit made of a child: an entry is written anew, and one is put in behind it where the child was split.
-use Rattle.std.specs.Prelude.{◌≡◌, true, cond, List, [], ◌∷◌, ◌++◌, map, ◌⊎◌, ℕ, suc, ◌+◌, ◌-◌, ◌≤◌, ◌<◌, take, drop}
+use Rattle.std.specs.Prelude.{◌≡◌, List, [], ◌∷◌, ◌++◌, map, ◌⊎◌, ℕ, suc, ◌+◌, ◌-◌, ◌≤◌, ◌<◌, take, drop, Option, Some}
 use Rattle.geometry.specs.Layout.{form_marks, most_branch}
 use Rattle.geometry.specs.Limits.{most_alphabet}
 use Rattle.lists.specs.Items.{All}
@@ -16,8 +16,7 @@ use Rattle.pool_blocks.specs.Contents.{link_in, entry_list, BranchAt}
 use Rattle.pool_entries.specs.declared.Summary.{Summary}
 use Rattle.pool_holders.specs.Maps.{MapFits, is_free, free_in, Entered}
 use Rattle.tree_splits.specs.Entries.{put_at, EntryHolds, TrueEntry, SoundChild}
-use Rattle.tree_splits.specs.Inserts.{roots}
-use Rattle.tree_splits.specs.declared.Grown.{Grown}
+use Rattle.tree_splits.specs.Inserts.{roots, added}
 
 -- one entry more in a branch with room, number k
 pub record EntryPut (b k child : ℕ) (summary : Summary) (p q : List ℕ) : Type 0 where
@@ -49,7 +48,7 @@ pub record GraftReady (p m : List ℕ) (b k child holder : ℕ) : Type 0 where
   pub room : entries p b + 1 ≤ most_branch + free_in m
 
 -- what a branch and the map are after entries changed: p and m before, q and n after
-pub record Regrouped (b holder : ℕ) (r : Grown) (all : List (List ℕ)) (p q m n : List ℕ) : Type 0 where
+pub record Regrouped (b holder : ℕ) (r : Option ℕ) (all : List (List ℕ)) (p q m n : List ℕ) : Type 0 where
   -- all entries, chopped as the shape function does
   pub lists : map (entry_list q) (roots r b) ≡ chop most_branch all
   pub inside : All (λ x. x < shares q) (roots r b)
@@ -58,16 +57,16 @@ pub record Regrouped (b holder : ℕ) (r : Grown) (all : List (List ℕ)) (p q m
   pub only : Only (λ x. 1 ≤ is_mark x b + (is_free m x - is_free n x)) p q
   pub blocks : (x : ℕ) → count x (roots r b) + is_free n x ≡ is_mark x b + is_free m x
   pub entered : Entered holder m n
-  pub took : free_in m ≡ free_in n + cond r.split 1 0
+  pub took : free_in m ≡ free_in n + added r
 
 -- the same where the entries are those before and one more, number k
-pub record Grafted (b k child holder : ℕ) (summary : Summary) (r : Grown) (p q m n : List ℕ) : Type 0 where
+pub record Grafted (b k child holder : ℕ) (summary : Summary) (r : Option ℕ) (p q m n : List ℕ) : Type 0 where
   pub entry : List ℕ
   pub holds : EntryHolds child summary entry
   pub regrouped : Regrouped b holder r (put_at k entry (entry_list p b)) p q m n
 
 -- entry k of a branch stands for a child that an edit made this of; together its pieces have one mark more than the entry says, a c
-pub record TakeUpReady (p m : List ℕ) (h b k child c holder : ℕ) (g : Grown) : Type 0 where
+pub record TakeUpReady (p m : List ℕ) (h b k child c holder : ℕ) (g : Option ℕ) : Type 0 where
   pub map : MapFits p m
   pub named : 0 < holder
   pub branch : BranchAt p b
@@ -81,19 +80,15 @@ pub record TakeUpReady (p m : List ℕ) (h b k child c holder : ℕ) (g : Grown)
   pub counts : (d : ℕ) → d < most_alphabet
       → total (λ x. count d (flat h (shape_at p h x))) (roots g child) ≡ count_below p b k d + is_mark d c
   pub short : marks_below p b k + 1 < word_limit
-  pub room : entries p b + cond g.split 1 0 ≤ most_branch + free_in m
-
--- a block that was split, and the new one behind it
-abbrev pub halved : ℕ → Grown
-halved new = record { split = true; new = new }
+  pub room : entries p b + added g ≤ most_branch + free_in m
 
 -- the same of a child that some mark split
 pub record SplitReady (p m : List ℕ) (h b k child new holder : ℕ) : Type 0 where
   pub symbol : ℕ
-  pub ready : TakeUpReady p m h b k child symbol holder (halved new)
+  pub ready : TakeUpReady p m h b k child symbol holder (Some new)
 
 -- the branch has an entry for each piece, in place of entry k
-pub record TakenUp (h b k child holder : ℕ) (g r : Grown) (p q m n : List ℕ) : Type 0 where
+pub record TakenUp (h b k child holder : ℕ) (g r : Option ℕ) (p q m n : List ℕ) : Type 0 where
   pub fresh : List (List ℕ)
   pub links : map link_in fresh ≡ roots g child
   pub true : All (TrueEntry p h) fresh

@@ -1,5 +1,5 @@
 -- An insert at a block of any level: what it needs, and what it leaves, whether it split the block or not.
-use Rattle.std.specs.Prelude.{◌≡◌, cond, List, [], ◌∷◌, map, ◌⊎◌, ℕ, zero, ◌+◌, ◌-◌, ◌≤◌, ◌<◌}
+use Rattle.std.specs.Prelude.{◌≡◌, List, [], ◌∷◌, map, ◌⊎◌, ℕ, zero, ◌+◌, ◌-◌, ◌≤◌, ◌<◌, Option, None, Some}
 use Rattle.geometry.specs.Layout.{form_marks, least_leaf}
 use Rattle.geometry.specs.Limits.{most_alphabet}
 use Rattle.lists.specs.Items.{All}
@@ -16,15 +16,21 @@ use Rattle.pool.specs.Sound.{SoundBlock, SoundBelow}
 use Rattle.pool.specs.Trees.{shape_at, blocks_at, path_at}
 use Rattle.pool.specs.Words.{word_limit}
 use Rattle.pool_holders.specs.Maps.{MapFits, is_free, free_in, Agrees, Entered}
-use Rattle.tree_splits.specs.declared.Grown.{Grown}
 
 -- the roots of the trees that an edit of block b leaves: b, and the new block behind it where b was split
-abbrev pub roots : Grown → ℕ → List ℕ
-roots r b = cond r.split (b ∷ r.new ∷ []) (b ∷ [])
+abbrev pub roots : Option ℕ → ℕ → List ℕ
+roots None b = b ∷ []
+roots (Some new) b = b ∷ new ∷ []
+
+-- how many blocks that is more than before
+abbrev pub added : Option ℕ → ℕ
+added None = 0
+added (Some new) = 1
 
 -- the entries that each of them has at least: as many as b had, or those that the halves of a full node have
-abbrev pub least_after : Grown → ℕ → ℕ → ℕ
-least_after r h before = cond r.split (least one_to_a_byte h) before
+abbrev pub least_after : Option ℕ → ℕ → ℕ → ℕ
+least_after None h before = before
+least_after (Some new) h before = least one_to_a_byte h
 
 -- a mark c can be put in at place i of the tree at block b: the tree is sound and the map has its blocks as held, the place is there,
 -- and there are as many free blocks as nodes will split
@@ -41,7 +47,7 @@ pub record InsertReady (p m : List ℕ) (h b i c holder : ℕ) : Type 0 where
   pub room : splits one_to_a_byte h i (shape_at p h b) ≤ free_in m
 
 -- it was put in: p and m are the pool and the map before, q and n after
-pub record Inserted (h b i c holder : ℕ) (r : Grown) (p q m n : List ℕ) : Type 0 where
+pub record Inserted (h b i c holder : ℕ) (r : Option ℕ) (p q m n : List ℕ) : Type 0 where
   -- the trees are the pieces that the shape function makes
   pub shapes : map (shape_at q h) (roots r b) ≡ insert_node one_to_a_byte c h i (shape_at p h b)
   -- each is sound

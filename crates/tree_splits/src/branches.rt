@@ -1,13 +1,12 @@
 // A branch takes up what an edit made of a child. Entries move with all that they say.
-ghost use Rattle.std.specs.Prelude.{◌≡◌, ◌≤◌, ◌<◌};
+ghost use Rattle.std.specs.Prelude.{◌≡◌, ◌≤◌, ◌<◌, Some};
 ghost use Rattle.geometry.specs.Layout.{most_branch};
 ghost use Rattle.pool.specs.Blocks.{entries};
 ghost use Rattle.pool.specs.Bytes.{shares};
 ghost use Rattle.pool.specs.Words.{word_limit};
 ghost use Rattle.pool_blocks.specs.Contents.{BranchAt};
-ghost use Rattle.tree_splits.specs.Grafts.{EntryPut, BranchSplit, GraftReady, Grafted, halved, SplitReady, TakenUp};
+ghost use Rattle.tree_splits.specs.Grafts.{EntryPut, BranchSplit, GraftReady, Grafted, SplitReady, TakenUp};
 
-use crate::Grown;
 use geometry::Record;
 use pool_blocks::branch::{cut_branch, open_entry};
 use pool_entries::{Summary, entry_count, set_entry, summary_of};
@@ -23,9 +22,9 @@ pub fn take_up(
     new: usize,
     map: &mut [u8],
     holder: u8,
-) -> Grown
+) -> Option<usize>
     requires { SplitReady pool.old map.old level b k child new holder }
-    ensures { TakenUp level b k child holder (halved new) result pool.old pool.new
+    ensures { TakenUp level b k child holder (Some new) result pool.old pool.new
         map.old map.new }
 {
     let left = summary_of(pool, level, child);
@@ -43,20 +42,17 @@ fn graft_entry(
     summary: Summary,
     map: &mut [u8],
     holder: u8,
-) -> Grown
+) -> Option<usize>
     requires { GraftReady pool.old map.old b k child holder }
     ensures { Grafted b k child holder summary result pool.old pool.new map.old map.new }
 {
     if entry_count(pool, b) < Record::MOST_BRANCH {
         put_entry(pool, b, k, child, summary);
-        return Grown {
-            split: false,
-            new: 0,
-        };
+        return None;
     }
     let new = take_block(map, holder);
     split_branch(pool, b, new, k, child, summary);
-    Grown { split: true, new }
+    Some(new)
 }
 
 // Puts an entry in as number k of a full branch, and half of its entries into the block `new`.

@@ -6,7 +6,6 @@ ghost use Rattle.pool.specs.Bytes.{shares};
 ghost use Rattle.pool_blocks.specs.Contents.{LeafAt};
 ghost use Rattle.tree_splits.specs.Inserts.{InsertReady, Inserted, LeafSplit};
 
-use crate::Grown;
 use geometry::Record;
 use pool_blocks::leaf::{cut_leaf, insert_mark};
 use pool_entries::entry_count;
@@ -20,20 +19,17 @@ pub fn insert_in_leaf(
     c: u8,
     map: &mut [u8],
     holder: u8,
-) -> Grown
+) -> Option<usize>
     requires { InsertReady pool.old map.old 0 b i c holder }
     ensures { Inserted 0 b i c holder result pool.old pool.new map.old map.new }
 {
     if entry_count(pool, b) < Record::MOST_LEAF {
         insert_mark(pool, b, i, c);
-        return Grown {
-            split: false,
-            new: 0,
-        };
+        return None;
     }
     let new = take_block(map, holder);
     split_leaf(pool, b, new, i, c);
-    Grown { split: true, new }
+    Some(new)
 }
 
 // Puts c in at place i of the full leaf b, whose second half goes to the block `new`.

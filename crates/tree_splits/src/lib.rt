@@ -1,5 +1,6 @@
 // What an insert does to single blocks: a leaf takes a mark, a branch takes up that a child was split, and a new root stands above two
-// halves. A full block is split, and only then a block is taken from the map of holders.
+// halves. A full block is split, and only then a block is taken from the map of holders: an edit answers the new block, which stands behind
+// the one that was split, if there is one.
 #![tactic(auto)]
 
 mod branches;
@@ -10,9 +11,9 @@ pub use branches::take_up;
 pub use leaves::insert_in_leaf;
 pub use root::grow_root;
 
-// What an edit of a block came to: whether it was split, and if so the new block, which stands behind it.
+// A tree in the pool: its root's level and its root block.
 #[derive(Clone, Copy)]
-pub struct Grown {
-    pub split: bool,
-    pub new: usize,
+pub struct Rooted {
+    pub level: usize,
+    pub root: usize,
 }

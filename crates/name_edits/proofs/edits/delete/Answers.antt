@@ -1,13 +1,9 @@
 -- `name_edits::edits::delete` meets its contract: the tree is without the mark, and the record says so.
-use native.Mathlib.Omega.{arith}
-use Rattle.name_edits.proofs.NameEdits.{delete-in-ready, delete-length, delete-storable, deleted-at}
+use Rattle.name_edits.proofs.NameEdits.{delete-in-ready, delete-storable, deleted-at}
 use Rattle.name_edits.proofs.edits.delete.Goals as goal
 
 pub delete_in_tree-removed-requires : goal.delete_in_tree-removed-requires
 delete_in_tree-removed-requires c = search delete-in-ready
-
-pub overflow_sub-old : goal.overflow_sub-old
-overflow_sub-old c = grind (arith, delete-length)
 
 pub put_tree-requires : goal.put_tree-requires
 put_tree-requires c = search delete-storable

@@ -2,8 +2,8 @@
 use Rattle.name_edits.proofs.NameEdits.{insert-in-ready, insert-length, insert-storable, inserted-at}
 use Rattle.name_edits.proofs.edits.insert.Goals as goal
 
-pub insert_in_tree-rooted-requires : goal.insert_in_tree-rooted-requires
-insert_in_tree-rooted-requires c = search insert-in-ready
+pub insert_in_tree-tree-requires : goal.insert_in_tree-tree-requires
+insert_in_tree-tree-requires c = search insert-in-ready
 
 pub overflow_add-old : goal.overflow_add-old
 overflow_add-old c = record { fits = search insert-length }

@@ -3,8 +3,4 @@ use Rattle.tree_insert.proofs.WaysDown.{WayFound}
 use Rattle.tree_insert.proofs.descent.find_way.Given as goal
 
 abbrev pub invariant-loop-at : goal.invariant-loop-at
-invariant-loop-at l =
-    WayFound l.pool l.level l.b l.i l.at l.block l.place l.blocks l.places l.children
-
-abbrev pub decreases-loop-at : goal.decreases-loop-at
-decreases-loop-at l = l.at
+invariant-loop-at l = WayFound l.pool l.level l.b l.i l.at l.block l.place l.way

@@ -1,20 +1,11 @@
-use Rattle.tree_insert.proofs.WaysUp.{climbed-start, split-ready, split-climbed, all-climbed, counter, rest-climbed}
+use Rattle.tree_insert.proofs.WaysUp.{split-ready, next-climbed, rest-climbed}
 use Rattle.tree_insert.proofs.insert.go_up.Goals as goal
 
-pub loop-at-init : goal.loop-at-init
-loop-at-init c = search climbed-start
-
-pub count_up-requires-clause-start : goal.count_up-requires-clause-start
-count_up-requires-clause-start c = search counter
-
-pub returns-then-not-grown : goal.returns-then-not-grown
-returns-then-not-grown c = search rest-climbed
+pub returns-in_default : goal.returns-in_default
+returns-in_default c = rest-climbed _ _ _ _ _ _ _ _ _ _ _ (rw c.in_default.is at c.loop-at.invariant) _ c.count_up.ensures
 
 pub take_up-grown-requires : goal.take_up-grown-requires
-take_up-grown-requires c = search split-ready
+take_up-grown-requires c = split-ready _ _ _ _ _ _ _ _ _ _ _ _ (rw c.in-Some.is at c.loop-at.invariant) c.loop-at-test.true
 
 pub loop-at-preserved : goal.loop-at-preserved
-loop-at-preserved c = search split-climbed
-
-pub returns : goal.returns
-returns c = search all-climbed
+loop-at-preserved c = next-climbed _ _ _ _ _ _ _ _ _ _ _ _ (rw c.in-Some.is at c.loop-at.invariant) c.loop-at-test.true _ _ _ c.take_up-grown.ensures

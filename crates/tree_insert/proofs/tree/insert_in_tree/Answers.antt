@@ -2,11 +2,11 @@
 use Rattle.tree_insert.proofs.WholeTrees.{root-ready, tree-kept, tree-grown}
 use Rattle.tree_insert.proofs.tree.insert_in_tree.Goals as goal
 
-pub grow_root-root-requires : goal.grow_root-root-requires
-grow_root-root-requires c = search root-ready
+pub grow_root-requires : goal.grow_root-requires
+grow_root-requires c = root-ready _ _ _ _ _ _ _ c.requires _ _ _ c.in-Some.ensures
 
-pub returns-then-grown : goal.returns-then-grown
-returns-then-grown c = search tree-grown
+pub returns-in-Some : goal.returns-in-Some
+returns-in-Some c = tree-grown _ _ _ _ _ _ _ c.requires _ _ _ c.in-Some.ensures _ _ _ c.grow_root.ensures
 
-pub returns : goal.returns
-returns c = search tree-kept
+pub returns-in-None : goal.returns-in-None
+returns-in-None c = tree-kept _ _ _ _ _ _ _ c.requires _ _ c.in-None.ensures
