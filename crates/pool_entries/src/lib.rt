@@ -2,6 +2,9 @@
 // parent's entry says of it.
 #![tactic(auto)]
 
+ghost use Rattle.std.specs.Prelude.{◌<◌};
+ghost use Rattle.pool.specs.Bytes.{shares};
+
 use geometry::Record;
 
 mod choice;
@@ -10,11 +13,17 @@ mod sizes;
 mod stores;
 mod sums;
 
-pub use choice::{seat_by, words_before};
-pub use reads::{count_below, entry_count, link, marks_below};
 pub use sizes::{least_entries, most_entries};
 pub use stores::{add_mark, set_entry, take_mark};
-pub use sums::summary_of;
+
+// A block of a pool that is lent to be read, by its number.
+#[derive(Clone, Copy)]
+pub struct Block<'a> {
+    pub pool: &'a [u8],
+    pub b: usize,
+    // it is one of the pool's
+    pub ghost inside: { b < shares pool.now },
+}
 
 // How many marks a block has, and how many of them are each symbol.
 #[derive(Clone, Copy)]

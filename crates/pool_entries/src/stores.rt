@@ -7,8 +7,8 @@ ghost use Rattle.pool.specs.Bytes.{shares};
 ghost use Rattle.pool.specs.Words.{word_limit};
 ghost use Rattle.pool_entries.specs.Entries.{PutCounts, PutEntry, PutMark, AddMark, TakeMark};
 
-use crate::Summary;
-use crate::reads::{count_below, entry_at, marks_below};
+use crate::reads::entry_at;
+use crate::{Block, Summary};
 use geometry::Record;
 use pool::put_word;
 
@@ -43,8 +43,9 @@ pub fn add_mark(pool: &mut [u8], b: usize, k: usize, c: usize)
     requires room { (marks_below pool.old b k + 1 < word_limit) × (count_below pool.old b k c + 1 < word_limit) }
     ensures { AddMark b k c pool.old pool.new }
 {
-    let marks = marks_below(pool, b, k) + 1;
-    let count = count_below(pool, b, k, c) + 1;
+    let block = Block { pool, b };
+    let marks = block.marks_below(k) + 1;
+    let count = block.count_below(k, c) + 1;
     put_mark(pool, b, k, c, marks, count);
 }
 
@@ -54,8 +55,9 @@ pub fn take_mark(pool: &mut [u8], b: usize, k: usize, c: usize)
     requires there { (0 < marks_below pool.old b k) × (0 < count_below pool.old b k c) }
     ensures { TakeMark b k c pool.old pool.new }
 {
-    let marks = marks_below(pool, b, k) - 1;
-    let count = count_below(pool, b, k, c) - 1;
+    let block = Block { pool, b };
+    let marks = block.marks_below(k) - 1;
+    let count = block.count_below(k, c) - 1;
     put_mark(pool, b, k, c, marks, count);
 }
 
