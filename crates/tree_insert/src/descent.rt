@@ -5,7 +5,7 @@ ghost use Rattle.geometry.specs.Layout.{most_height};
 ghost use Rattle.tree_insert.specs.Ways.{Insertable, WayTo};
 
 use geometry::Record;
-use pool_entries::{link, seat_by};
+use pool_entries::Block;
 
 // A way has a step at each level, the leaves' too.
 pub const LEVELS: usize = Record::MOST_HEIGHT + 1;
@@ -27,12 +27,13 @@ pub fn find_way(pool: &[u8], level: usize, b: usize, i: usize, way: &mut [Step; 
     let mut block = b;
     let mut place = i;
     for at in (0..level).rev() {
-        let seat = seat_by(pool, block, Record::ENTRY_MARKS_AT, place);
+        let branch = Block { pool, b: block };
+        let seat = branch.seat_by(Record::ENTRY_MARKS_AT, place);
         way[at + 1] = Step {
             block,
             child: seat.k,
         };
-        block = link(pool, block, seat.k);
+        block = branch.link(seat.k);
         place -= seat.before;
     }
     way[0] = Step { block, child: 0 };

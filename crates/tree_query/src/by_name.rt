@@ -14,7 +14,7 @@ ghost use Rattle.tree_query.specs.Records.{OfOpenName, tree_by};
 use crate::Found;
 use crate::descent::{access_in, rank_in, select_in};
 use geometry::Record;
-use pool_entries::{entry_count, words_before};
+use pool_entries::Block;
 
 // The mark at place i, and its depth.
 pub fn access(pool: &[u8], found: Record, i: usize) -> Found
@@ -66,5 +66,6 @@ fn count_in_branch(pool: &[u8], b: usize, c: usize) -> usize
     ensures { result ≡ own_count pool.now 1 b c }
 {
     let offset = Record::ENTRY_COUNTS_AT + Record::WORD_SIZE * c;
-    words_before(pool, b, offset, entry_count(pool, b))
+    let block = Block { pool, b };
+    block.words_before(offset, block.entry_count())
 }

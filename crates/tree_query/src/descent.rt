@@ -11,7 +11,7 @@ ghost use Rattle.tree_query.specs.Good.{Good};
 
 use geometry::Record;
 use pool_blocks::leaf::{count_marks, find_mark, mark_at};
-use pool_entries::{link, seat_by, words_before};
+use pool_entries::Block;
 
 // The mark at place i below block b of a level; the blocks entered on the way are counted.
 pub fn access_in(pool: &&[u8], level: u8, b: usize, i: usize, entered: &mut usize) -> u8
@@ -23,8 +23,9 @@ pub fn access_in(pool: &&[u8], level: u8, b: usize, i: usize, entered: &mut usiz
     if level == 0 {
         return mark_at(*pool, b, i);
     }
-    let seat = seat_by(*pool, b, Record::ENTRY_MARKS_AT, i);
-    let child = link(*pool, b, seat.k);
+    let block = Block { pool: *pool, b };
+    let seat = block.seat_by(Record::ENTRY_MARKS_AT, i);
+    let child = block.link(seat.k);
     access_in(pool, level - 1, child, i - seat.before, entered)
 }
 
@@ -37,10 +38,11 @@ pub fn rank_in(pool: &&[u8], level: u8, b: usize, c: u8, i: usize) -> usize
     if level == 0 {
         return count_marks(*pool, b, c, i);
     }
-    let seat = seat_by(*pool, b, Record::ENTRY_MARKS_AT, i);
+    let block = Block { pool: *pool, b };
+    let seat = block.seat_by(Record::ENTRY_MARKS_AT, i);
     let offset = Record::ENTRY_COUNTS_AT + Record::WORD_SIZE * (c as usize);
-    let passed = words_before(*pool, b, offset, seat.k);
-    let child = link(*pool, b, seat.k);
+    let passed = block.words_before(offset, seat.k);
+    let child = block.link(seat.k);
     passed + rank_in(pool, level - 1, child, c, i - seat.before)
 }
 
@@ -55,8 +57,9 @@ pub fn select_in(pool: &&[u8], level: u8, b: usize, c: u8, j: usize) -> usize
         return find_mark(*pool, b, c, j);
     }
     let offset = Record::ENTRY_COUNTS_AT + Record::WORD_SIZE * (c as usize);
-    let seat = seat_by(*pool, b, offset, j);
-    let passed = words_before(*pool, b, Record::ENTRY_MARKS_AT, seat.k);
-    let child = link(*pool, b, seat.k);
+    let block = Block { pool: *pool, b };
+    let seat = block.seat_by(offset, j);
+    let passed = block.words_before(Record::ENTRY_MARKS_AT, seat.k);
+    let child = block.link(seat.k);
     passed + select_in(pool, level - 1, child, c, j - seat.before)
 }

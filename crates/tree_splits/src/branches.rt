@@ -9,7 +9,7 @@ ghost use Rattle.tree_splits.specs.Grafts.{EntryPut, BranchSplit, GraftReady, Gr
 
 use geometry::Record;
 use pool_blocks::branch::{cut_branch, open_entry};
-use pool_entries::{Summary, entry_count, set_entry, summary_of};
+use pool_entries::{Block, Summary, set_entry};
 use pool_holders::take_block;
 
 // Takes up that an insert split child k of the branch b: there are two entries in its place. The level is the child's.
@@ -27,8 +27,8 @@ pub fn take_up(
     ensures { TakenUp level b k child holder (Some new) result pool.old pool.new
         map.old map.new }
 {
-    let left = summary_of(pool, level, child);
-    let right = summary_of(pool, level, new);
+    let left = Block { pool, b: child }.summary(level);
+    let right = Block { pool, b: new }.summary(level);
     set_entry(pool, b, k, child, left);
     graft_entry(pool, b, k + 1, new, right, map, holder)
 }
@@ -46,7 +46,8 @@ fn graft_entry(
     requires { GraftReady pool.old map.old b k child holder }
     ensures { Grafted b k child holder summary result pool.old pool.new map.old map.new }
 {
-    if entry_count(pool, b) < Record::MOST_BRANCH {
+    let block = Block { pool, b };
+    if block.entry_count() < Record::MOST_BRANCH {
         put_entry(pool, b, k, child, summary);
         return None;
     }

@@ -8,7 +8,7 @@ ghost use Rattle.tree_splits.specs.Inserts.{InsertReady, Inserted, LeafSplit};
 
 use geometry::Record;
 use pool_blocks::leaf::{cut_leaf, insert_mark};
-use pool_entries::entry_count;
+use pool_entries::Block;
 use pool_holders::take_block;
 
 // Puts c in at place i of the leaf b.
@@ -23,7 +23,8 @@ pub fn insert_in_leaf(
     requires { InsertReady pool.old map.old 0 b i c holder }
     ensures { Inserted 0 b i c holder result pool.old pool.new map.old map.new }
 {
-    if entry_count(pool, b) < Record::MOST_LEAF {
+    let block = Block { pool, b };
+    if block.entry_count() < Record::MOST_LEAF {
         insert_mark(pool, b, i, c);
         return None;
     }

@@ -6,7 +6,7 @@ ghost use Rattle.tree_splits.specs.Roots.{PairWritten, RootReady, RootGrown};
 
 use crate::branches::put_entry;
 use pool_blocks::empty_block;
-use pool_entries::{Summary, summary_of};
+use pool_entries::{Block, Summary};
 use pool_holders::take_block;
 
 // Takes a block for a root above two blocks of a level.
@@ -21,8 +21,8 @@ pub fn grow_root(
     requires { RootReady pool.old map.old level left right holder }
     ensures { RootGrown level left right holder result pool.old pool.new map.old map.new }
 {
-    let first = summary_of(pool, level, left);
-    let second = summary_of(pool, level, right);
+    let first = Block { pool, b: left }.summary(level);
+    let second = Block { pool, b: right }.summary(level);
     let root = take_block(map, holder);
     write_pair(pool, root, left, first, right, second);
     root
