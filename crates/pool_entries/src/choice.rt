@@ -47,10 +47,15 @@ pub fn words_before(pool: &[u8], b: usize, offset: usize, k: usize) -> usize
 {
     let first = entry_word(pool, b, 0, offset);
     let both = first + entry_word(pool, b, 1, offset);
-    match k {
-        0 => 0,
-        1 => first,
-        2 => both,
-        _ => both + entry_word(pool, b, 2, offset),
+    if k > 2 {
+        return both + entry_word(pool, b, 2, offset);
     }
+    let mut sum = 0;
+    if k > 0 {
+        sum = first;
+    }
+    if k > 1 {
+        sum = both;
+    }
+    sum
 }
