@@ -1,67 +1,31 @@
--- The nine codes: what holds of each of them holds of every code in the table. Which codes are in it, and which fields their commands use.
-use mathlib.Core.Bool.{Bool, true, false, ◌||◌, false≢true}
-use mathlib.Core.Logic.{◌⊎◌, inl, inr}
+-- The nine operations, one by one: their codes are in the table, and which fields their commands use.
+use mathlib.Core.Bool.{true, false}
+use mathlib.Core.Logic.{◌⊎◌, ◌≢◌, inl, inr}
 use mathlib.Core.Path.{◌≡◌, refl, sym, subst}
 use Prim.Native.Nat.{ℕ, ◌≤◌}
 use native.Mathlib.Omega.{arith}
-use borrow.Author.Tests.{eqb-true}
-use lib.Dec.{eqb}
 use Rattle.machine.specs.Machine.{trees}
-use Rattle.protocol.specs.Commands.{open_code, close_code, insert_code, delete_code, access_code, rank_code, select_code, length_code, unpromised_code}
+use Rattle.protocol.specs.Commands.{open_code, close_code, length_code, unpromised_code}
 use Rattle.protocol.specs.Commands.{rows, row_of}
 use Rattle.protocol.specs.Numbers.{code_of}
 use Rattle.protocol.specs.Refusals.{listed}
 use Rattle.protocol.specs.declared.numbers.Operation.{Operation}
 use Rattle.protocol.specs.declared.numbers.Operation.TheVariants.{Open, Close, Insert, Delete, Access, Rank, Select, Length, Unpromised}
 
--- a code is the first that it is compared with, or one of the rest
-one_of : (P : ℕ → Type 0) (code first : ℕ) (rest : Bool) → P first → (rest ≡ true → P code) → (eqb code first || rest) ≡ true → P code
-one_of P code first rest here later = go (eqb code first) refl
-  where
-    go : (t : Bool) → eqb code first ≡ t → (t || rest) ≡ true → P code
-    go true is holds = subst P (sym (eqb-true code first is)) here
-    go false other holds = later holds
+-- a command that isn't an opening and names a name asks for one of the operations on open names
+pub code-of-open : (op : Operation) (code : ℕ) → code_of op ≡ code → code ≢ open_code → code ≢ unpromised_code
+    → (close_code ≤ code) × (code ≤ length_code)
+code-of-open Open code is o u = absurd (o (sym is))
+code-of-open Close code is o u = (omega arith, omega arith)
+code-of-open Insert code is o u = (omega arith, omega arith)
+code-of-open Delete code is o u = (omega arith, omega arith)
+code-of-open Access code is o u = (omega arith, omega arith)
+code-of-open Rank code is o u = (omega arith, omega arith)
+code-of-open Select code is o u = (omega arith, omega arith)
+code-of-open Length code is o u = (omega arith, omega arith)
+code-of-open Unpromised code is o u = absurd (u (sym is))
 
--- what holds of the nine
-pub record EachCode (P : ℕ → Type 0) : Type 0 where
-  pub of_open : P open_code
-  pub of_close : P close_code
-  pub of_insert : P insert_code
-  pub of_delete : P delete_code
-  pub of_access : P access_code
-  pub of_rank : P rank_code
-  pub of_select : P select_code
-  pub of_length : P length_code
-  pub of_unpromised : P unpromised_code
-
-pub by_code : (P : ℕ → Type 0) → EachCode P → (code : ℕ) → listed trees code ≡ true → P code
-unfolding rows
-by_code P each code =
-    one_of P code open_code _ each.of_open
-    (one_of P code close_code _ each.of_close
-    (one_of P code insert_code _ each.of_insert
-    (one_of P code delete_code _ each.of_delete
-    (one_of P code access_code _ each.of_access
-    (one_of P code rank_code _ each.of_rank
-    (one_of P code select_code _ each.of_select
-    (one_of P code length_code _ each.of_length
-    (one_of P code unpromised_code _ each.of_unpromised (λ none. absurd (false≢true none))))))))))
-
--- the codes in the table are 1 to 9
-pub listed-within : (code : ℕ) → listed trees code ≡ true → (open_code ≤ code) × (code ≤ unpromised_code)
-listed-within = by_code (λ code. (open_code ≤ code) × (code ≤ unpromised_code)) (record {
-  of_open = (omega arith, omega arith);
-  of_close = (omega arith, omega arith);
-  of_insert = (omega arith, omega arith);
-  of_delete = (omega arith, omega arith);
-  of_access = (omega arith, omega arith);
-  of_rank = (omega arith, omega arith);
-  of_select = (omega arith, omega arith);
-  of_length = (omega arith, omega arith);
-  of_unpromised = (omega arith, omega arith);
-})
-
--- every operation's code is in it
+-- every operation's code is in the table
 pub operation-listed : (op : Operation) (code : ℕ) → code_of op ≡ code → listed trees code ≡ true
 unfolding rows
 operation-listed op code is = subst (λ x. listed trees x ≡ true) is (each op)

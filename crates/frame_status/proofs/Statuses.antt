@@ -28,7 +28,7 @@ use Rattle.tree_query.specs.Records.{OfOpenName, tree_by}
 use Rattle.frame_status.specs.Statuses.{status_in, WellFormed, Naming, Asking, StatusBy}
 use Rattle.pool.proofs.Meaning.{unpromised-meaning}
 use Rattle.frame_status.specs.Statuses.{status_in, WellFormed, Naming, Asking}
-use Rattle.frame_status.proofs.Codes.{listed-within}
+use Rattle.frame_status.proofs.Codes.{code-of-open}
 use Rattle.frame_status.proofs.Forms.{later_status, later-tests, name_below}
 use Rattle.frame_status.proofs.Parts.{closed-by-kind, closed-part, opened-part}
 use Rattle.frame_status.proofs.Tests.{
@@ -105,12 +105,10 @@ module _ (p : List ℕ) (c : Command) (found : Record) (n : Naming p c found) wh
 
   -- a command to a name that must be open
   module _ (other : c.code ≢ open_code) where
-    pub naming-closed : found.kind ≡ kind_closed → 5 ≡ status_in p c
-    naming-closed is =
-        let within = listed-within c.code n.formed.known in
-        let first : c.code ≡ open_code → ⊥ = other in
-        let last : c.code ≡ unpromised_code → ⊥ = n.named in
-        sym (naming-closed-part is ∙ not-open _ c (omega (arith, within.0, first)) (omega (arith, within.1, last)))
+    pub naming-closed : (op : Operation) → code_of op ≡ c.code → found.kind ≡ kind_closed → 5 ≡ status_in p c
+    naming-closed op code is =
+        let within = code-of-open op c.code code other n.named in
+        sym (naming-closed-part is ∙ not-open _ c within.0 within.1)
 
     -- where the name is open, a closing and a length have no test
     module _ (is : found.kind ≡ kind_closed → ⊥) where
