@@ -8,7 +8,7 @@ ghost use Rattle.program_insertions.specs.Stream.{FileStarts, PutsFrame, GoesOn,
 
 use geometry::Record;
 use program_streams::Taken;
-use protocol::Command;
+use protocol::Operation;
 use text_fixed_form::mark;
 use text_hex::{LINE_SIZE, write_line};
 use text_lines::{Gathered, first_bytes, gather};
@@ -104,7 +104,7 @@ fn put_frame(line: &[u8], lines: usize, out: &mut [u8], filled: usize) -> usize
         write_line(
             out,
             filled,
-            Command::INSERT,
+            Operation::Insert as u8,
             FILE,
             mark(line),
             0,

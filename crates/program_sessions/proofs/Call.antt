@@ -21,7 +21,7 @@ use Rattle.shape.specs.Trees.{Tree}
 use Rattle.machine.specs.Machine.{trees}
 use Rattle.pool.specs.Meaning.{meaning}
 use Rattle.pool.specs.Sound.{Sound}
-use Rattle.call_tests.specs.declared.Outcome.{Outcome}
+use Rattle.call_tests.specs.Outcomes.{Outcome}
 use Rattle.call_run.specs.Calls.{Answered, Ran}
 use Rattle.call_run.specs.Runs.{commands_in, eights}
 use Rattle.call_run.proofs.Cutting.{commands-append}
