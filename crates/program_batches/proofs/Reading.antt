@@ -1,14 +1,12 @@
 -- What each step of reading a chunk leaves. A line that ends is put: its draft and its command, if it has one, stand behind those of the
 -- lines before it, and it is the next line of the input. Bytes that end no line are gathered.
-use mathlib.Core.Bool.{Bool, true, false}
+use mathlib.Core.Bool.{Bool, false}
 use mathlib.Core.Path.{◌≡◌, refl, sym, ap, ap₂, ◌∙◌}
 use mathlib.Core.List.{List, [], ◌∷◌, ◌++◌, map, map-append, append-nil}
-use Prim.Native.Nat.{ℕ, ◌+◌, ◌-◌, ◌*◌, ◌/◌, ◌^◌, ◌≤◌, ◌<◌}
+use Prim.Native.Nat.{ℕ, ◌+◌, ◌-◌, ◌*◌, ◌/◌, ◌≤◌, ◌<◌}
 use native.Mathlib.Omega.{arith}
 use lib.ListN.{length, take, drop, length-append, length-take, length-drop}
 use lib.Seq.{take-add, paste}
-use mir.Syntax.{w64}
-use mir.Val.{Fits}
 use Rattle.geometry.specs.Limits.{frame_size}
 use Rattle.lists.proofs.Cuts.{rest-is}
 use Rattle.lists.proofs.Joins.{joined-append}
@@ -21,7 +19,7 @@ use Rattle.text_hex.proofs.Fronts.{front-with, long-with}
 use Rattle.text_hex.proofs.Written.{length-of-line}
 use Rattle.text_lines.specs.Lines.{Stands, Holds, Gathers, ended, left, trim, piece}
 use Rattle.text_lines.specs.declared.Gathered.{Gathered}
-use Rattle.text_lines.specs.declared.Gathering.{Gathering}
+use Rattle.text_lines.specs.declared.Gathering.TheVariants.{Whole, Unfinished}
 use Rattle.text_lines.proofs.Held.{kept-tells}
 use Rattle.text_lines.proofs.Taken.{line-more, nothing_left, no-line-more, more_left}
 use Rattle.protocol.specs.Frames.{eight_bytes, bytes_of_command}
@@ -104,99 +102,101 @@ reads_none chunk before keep out commands =
       rest = λ gathered stands. stands;
     }
 
--- the number of a line that there is room for
-pub line-fits : (chunk : List ℕ) (batch : Batch) (out commands : List ℕ) → RoomForLine chunk batch out commands → length out < 2 ^ 64 → Fits w64 (batch.lines + 1)
-line-fits chunk batch out commands room long = record { fits = omega (arith, room.line) }
-
-module _ (chunk : List ℕ) (batch : Batch) (keep keep' out out' commands commands' : List ℕ) (g : Gathering)
-    (gathered-part : Gathers false (take (length chunk - batch.taken) (drop batch.taken chunk)) batch.line keep keep' g)
-    (room : RoomForLine chunk batch out commands) where
-  gathers : Gathers false (drop batch.taken chunk) batch.line keep keep' g
-  gathers = rw (rest-is chunk batch.taken) at gathered-part
-
-  some : 0 < g.taken
-  some = gathers.onward (omega (arith, room.within, length-drop batch.taken chunk))
-
-  within-chunk : batch.taken + g.taken ≤ length chunk
-  within-chunk = omega (arith, room.within, gathers.within, length-drop batch.taken chunk)
-
+module _ (chunk : List ℕ) (batch : Batch) (keep keep' out out' commands commands' : List ℕ) (room : RoomForLine chunk batch out commands) where
   -- a line has ended and was put
-  pub line_taken : (start : Gathered) (front : List ℕ) (frames : ℕ) → ((returns : Bool) (kept : List ℕ) → Stands returns [] start kept) → g.ended ≡ true
-      → front ≡ take g.line.kept keep' → PutsLine front batch.lines batch.frames out out' commands commands' frames
-      → ReadsOn chunk batch keep keep' out out' commands commands' (record { taken = batch.taken + g.taken; lines = batch.lines + 1; frames = frames; line = start })
-  line_taken start front frames starts ends is_front puts =
-      record { reads = reads; onward = omega (arith, some); same_out = puts.same_out; same_commands = puts.same_commands }
-    where
-      reads : (before : Gathered) (keep₀ : List ℕ) → ReadsLines chunk before keep₀ keep out commands batch
-          → ReadsLines chunk before keep₀ keep' out' commands' (record { taken = batch.taken + g.taken; lines = batch.lines + 1; frames = frames; line = start })
-      reads before keep₀ r =
-          record {
-            lines = r.lines ++ (front ∷ []);
-            many = rw length-append (omega (arith, r.many));
-            drafts = puts.draft ∙ ap (λ l. l ++ draft_of (frame_of front)) r.drafts ∙ sym (joined-more draft_of r.lines front);
-            bytes = puts.command ∙ ap (λ l. l ++ bytes_of (frame_of front)) r.bytes ∙ sym (joined-more bytes_of r.lines front);
-            room = omega (arith, room.line, puts.same_out);
-            room_for_frames = puts.room;
-            within = within-chunk;
-            few = omega (arith, some, r.few);
-            few_frames = omega (arith, puts.one, r.few_frames);
-            same = gathers.same ∙ r.same;
-            are = are;
-            rest =
-                λ gathered stands.
-                rw (take-add batch.taken g.taken chunk, nothing_left false (drop batch.taken chunk) batch.line keep keep' g gathers gathered (take batch.taken chunk) ends)
-                (starts false keep');
-          }
-        where
-          are : (gathered : List ℕ) → Stands false gathered before keep₀ → line_size ≤ length keep₀
-              → map frame_of (r.lines ++ (front ∷ [])) ≡ map frame_of (ended false gathered (take (batch.taken + g.taken) chunk))
-          are gathered stands enough =
-              let before-it : List ℕ = left gathered (take batch.taken chunk) in
-              let line : List ℕ = trim false (before-it ++ piece (drop batch.taken chunk) g) in
-              let held : Holds line g.line keep' = (gathers.stands before-it (r.rest gathered stands)).line in
-              let reads_so : frame_of front ≡ frame_of line =
-              ap frame_of is_front ∙ frame-of-held line g.line keep' held (omega (arith, gathers.same, r.same))
-              in
-              map-append frame_of r.lines (front ∷ [])
-              ∙ ap₂ (λ rs l. rs ++ (l ∷ [])) (r.are gathered stands enough) reads_so
-              ∙ sym (map-append frame_of (ended false gathered (take batch.taken chunk)) (line ∷ []))
-              ∙ ap (map frame_of)
-              (sym (line-more false (drop batch.taken chunk) batch.line keep keep' g gathers gathered (take batch.taken chunk) ends)
-              ∙ ap (ended false gathered) (sym (take-add batch.taken g.taken chunk)))
+  module _ (taken : ℕ) (line : Gathered)
+      (part : Gathers false (take (length chunk - batch.taken) (drop batch.taken chunk)) batch.line keep keep' (Whole taken line)) where
+    gathers : Gathers false (drop batch.taken chunk) batch.line keep keep' (Whole taken line)
+    gathers = rw (rest-is chunk batch.taken) at part
 
-  -- no line has ended
-  pub none-taken : g.ended ≡ false
-      → ReadsOn chunk batch keep keep' out out commands commands (record { taken = batch.taken + g.taken; lines = batch.lines; frames = batch.frames; line = g.line })
-  none-taken goes_on =
-      record {
-        reads =
-            λ before keep₀ r.
+    some : 0 < taken
+    some = gathers.onward (omega (arith, room.within, length-drop batch.taken chunk))
+
+    pub line_taken : (start : Gathered) (front : List ℕ) (frames : ℕ) → ((returns : Bool) (kept : List ℕ) → Stands returns [] start kept)
+        → front ≡ take line.kept keep' → PutsLine front batch.lines batch.frames out out' commands commands' frames
+        → ReadsOn chunk batch keep keep' out out' commands commands' (record { taken = batch.taken + taken; lines = batch.lines + 1; frames = frames; line = start })
+    line_taken start front frames starts is_front puts =
+        record { reads = reads; onward = omega (arith, some); same_out = puts.same_out; same_commands = puts.same_commands }
+      where
+        reads : (before : Gathered) (keep₀ : List ℕ) → ReadsLines chunk before keep₀ keep out commands batch
+            → ReadsLines chunk before keep₀ keep' out' commands' (record { taken = batch.taken + taken; lines = batch.lines + 1; frames = frames; line = start })
+        reads before keep₀ r =
             record {
-              lines = r.lines;
-              many = r.many;
-              drafts = r.drafts;
-              bytes = r.bytes;
-              room = r.room;
-              room_for_frames = r.room_for_frames;
-              within = within-chunk;
-              few = omega (arith, r.few);
-              few_frames = r.few_frames;
+              lines = r.lines ++ (front ∷ []);
+              many = rw length-append (omega (arith, r.many));
+              drafts = puts.draft ∙ ap (λ l. l ++ draft_of (frame_of front)) r.drafts ∙ sym (joined-more draft_of r.lines front);
+              bytes = puts.command ∙ ap (λ l. l ++ bytes_of (frame_of front)) r.bytes ∙ sym (joined-more bytes_of r.lines front);
+              room = omega (arith, room.line, puts.same_out);
+              room_for_frames = puts.room;
+              within = omega (arith, room.within, gathers.within, length-drop batch.taken chunk);
+              few = omega (arith, some, r.few);
+              few_frames = omega (arith, puts.one, r.few_frames);
               same = gathers.same ∙ r.same;
-              are =
-                  λ gathered stands enough.
-                  r.are gathered stands enough
-                  ∙ ap (map frame_of)
-                  (sym (no-line-more false (drop batch.taken chunk) batch.line keep keep' g gathers gathered (take batch.taken chunk) goes_on)
-                  ∙ ap (ended false gathered) (sym (take-add batch.taken g.taken chunk)));
+              are = are;
               rest =
                   λ gathered stands.
-                  rw (take-add batch.taken g.taken chunk, more_left false (drop batch.taken chunk) batch.line keep keep' g gathers gathered (take batch.taken chunk) goes_on)
-                  (gathers.stands (left gathered (take batch.taken chunk)) (r.rest gathered stands));
-            };
-        onward = omega (arith, some);
-        same_out = refl;
-        same_commands = refl;
-      }
+                  rw (take-add batch.taken taken chunk, nothing_left false (drop batch.taken chunk) batch.line keep keep' (Whole taken line) gathers gathered (take batch.taken chunk) refl)
+                  (starts false keep');
+            }
+          where
+            are : (gathered : List ℕ) → Stands false gathered before keep₀ → line_size ≤ length keep₀
+                → map frame_of (r.lines ++ (front ∷ [])) ≡ map frame_of (ended false gathered (take (batch.taken + taken) chunk))
+            are gathered stands enough =
+                let before-it : List ℕ = left gathered (take batch.taken chunk) in
+                let text : List ℕ = trim false (before-it ++ piece (drop batch.taken chunk) (Whole taken line)) in
+                let held : Holds text line keep' = (gathers.stands before-it (r.rest gathered stands)).line in
+                let reads_so : frame_of front ≡ frame_of text =
+                ap frame_of is_front ∙ frame-of-held text line keep' held (omega (arith, gathers.same, r.same))
+                in
+                map-append frame_of r.lines (front ∷ [])
+                ∙ ap₂ (λ rs l. rs ++ (l ∷ [])) (r.are gathered stands enough) reads_so
+                ∙ sym (map-append frame_of (ended false gathered (take batch.taken chunk)) (text ∷ []))
+                ∙ ap (map frame_of)
+                (sym (line-more false (drop batch.taken chunk) batch.line keep keep' (Whole taken line) gathers gathered (take batch.taken chunk) refl)
+                ∙ ap (ended false gathered) (sym (take-add batch.taken taken chunk)))
+
+  -- no line has ended
+  module _ (line : Gathered)
+      (part : Gathers false (take (length chunk - batch.taken) (drop batch.taken chunk)) batch.line keep keep' (Unfinished line)) where
+    gathers-all : Gathers false (drop batch.taken chunk) batch.line keep keep' (Unfinished line)
+    gathers-all = rw (rest-is chunk batch.taken) at part
+
+    whole-chunk : take (length chunk) chunk ≡ take batch.taken chunk ++ take (length (drop batch.taken chunk)) (drop batch.taken chunk)
+    whole-chunk =
+        let ends : length chunk ≡ batch.taken + length (drop batch.taken chunk) = omega (arith, room.within, length-drop batch.taken chunk) in
+        ap (λ k. take k chunk) ends ∙ take-add batch.taken (length (drop batch.taken chunk)) chunk
+
+    pub none-taken : ReadsOn chunk batch keep keep' out out commands commands (record { taken = length chunk; lines = batch.lines; frames = batch.frames; line = line })
+    none-taken =
+        record {
+          reads =
+              λ before keep₀ r.
+              record {
+                lines = r.lines;
+                many = r.many;
+                drafts = r.drafts;
+                bytes = r.bytes;
+                room = r.room;
+                room_for_frames = r.room_for_frames;
+                within = omega arith;
+                few = omega (arith, r.few, room.within);
+                few_frames = r.few_frames;
+                same = gathers-all.same ∙ r.same;
+                are =
+                    λ gathered stands enough.
+                    r.are gathered stands enough
+                    ∙ ap (map frame_of)
+                    (sym (no-line-more false (drop batch.taken chunk) batch.line keep keep' (Unfinished line) gathers-all gathered (take batch.taken chunk) refl)
+                    ∙ ap (ended false gathered) (sym whole-chunk));
+                rest =
+                    λ gathered stands.
+                    rw (whole-chunk, more_left false (drop batch.taken chunk) batch.line keep keep' (Unfinished line) gathers-all gathered (take batch.taken chunk) refl)
+                    (gathers-all.stands (left gathered (take batch.taken chunk)) (r.rest gathered stands));
+              };
+          onward = room.within;
+          same_out = refl;
+          same_commands = refl;
+        }
 
 -- The loop: what has been read of a chunk so far, into buffers that keep their lengths.
 pub record ReadSoFar (chunk : List ℕ) (before : Gathered) (keep keep' out out' commands commands' : List ℕ) (batch : Batch) : Type 0 where

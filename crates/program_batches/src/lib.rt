@@ -10,7 +10,7 @@ ghost use Rattle.program_batches.specs.Batch.{PutsLine, ReadsOn, PutsAnswer, Com
 use geometry::Record;
 use protocol::{Answer, Command};
 use text_hex::{LINE_SIZE, Reading, read_line, write_line};
-use text_lines::{Gathered, first_bytes, gather};
+use text_lines::{Gathered, Gathering, first_bytes, gather};
 
 // The lines that have been read from a chunk, beside the output with their drafts and the commands of their frames.
 #[derive(Clone, Copy)]
@@ -66,29 +66,22 @@ fn take_line(
     ensures { ReadsOn chunk.now batch keep.old keep.new
         out.old out.new commands.old commands.new result }
 {
-    let at = batch.taken;
-    let lines = batch.lines;
-    let frames = batch.frames;
-    let gathering = gather(&chunk[at..], false, batch.line, keep);
-    let taken = at + gathering.taken;
-    let ended = gathering.ended;
-    let line = gathering.line;
-    if ended {
-        let kept = line.kept;
-        let lines_then = lines + 1;
-        let frames = put_line(first_bytes(keep, kept), out, lines, commands, frames);
-        return Batch {
-            taken,
-            lines: lines_then,
-            frames,
-            line: Gathered::start(),
-        };
-    }
-    Batch {
-        taken,
-        lines,
-        frames,
-        line,
+    match gather(&chunk[batch.taken..], false, batch.line, keep) {
+        Gathering::Whole { taken, line } => {
+            let front = first_bytes(keep, line.kept);
+            let frames = put_line(front, out, batch.lines, commands, batch.frames);
+            Batch {
+                taken: batch.taken + taken,
+                lines: batch.lines + 1,
+                frames,
+                line: Gathered::start(),
+            }
+        }
+        Gathering::Unfinished { line } => Batch {
+            taken: chunk.len(),
+            line,
+            ..batch
+        },
     }
 }
 

@@ -10,7 +10,7 @@ use geometry::Record;
 use protocol::Command;
 use text_fixed_form::mark;
 use text_hex::{LINE_SIZE, write_line};
-use text_lines::{Gathered, first_bytes, gather};
+use text_lines::{Gathered, Gathering, first_bytes, gather};
 
 // How far a file has been read, beside the buffer that holds the first columns of its unfinished line.
 #[derive(Clone, Copy)]
@@ -83,27 +83,24 @@ fn take_line(
     requires { filled + line_size ≤ length out.old }
     ensures { GoesOn bytes.now before keep.old keep.new out.old out.new filled result }
 {
-    let lines = before.lines;
-    let gathering = gather(bytes, true, before.line, keep);
-    let taken = gathering.taken;
-    let ended = gathering.ended;
-    let line = gathering.line;
-    if ended {
-        let kept = line.kept;
-        let filled = put_frame(first_bytes(keep, kept), lines, out, filled);
-        return FileTaken {
-            taken,
+    match gather(bytes, true, before.line, keep) {
+        Gathering::Whole { taken, line } => {
+            let front = first_bytes(keep, line.kept);
+            let filled = put_frame(front, before.lines, out, filled);
+            FileTaken {
+                taken,
+                filled,
+                after: Progress {
+                    line: Gathered::start(),
+                    lines: one_more(before.lines),
+                },
+            }
+        }
+        Gathering::Unfinished { line } => FileTaken {
+            taken: bytes.len(),
             filled,
-            after: Progress {
-                line: Gathered::start(),
-                lines: one_more(lines),
-            },
-        };
-    }
-    FileTaken {
-        taken,
-        filled,
-        after: Progress { line, lines },
+            after: Progress { line, ..before },
+        },
     }
 }
 
