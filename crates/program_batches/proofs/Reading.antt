@@ -3,17 +3,16 @@
 use mathlib.Core.Bool.{Bool, false}
 use mathlib.Core.Path.{◌≡◌, refl, sym, ap, ap₂, ◌∙◌}
 use mathlib.Core.List.{List, [], ◌∷◌, ◌++◌, map, map-append, append-nil}
-use Prim.Native.Nat.{ℕ, ◌+◌, ◌-◌, ◌*◌, ◌/◌, ◌≤◌, ◌<◌}
+use Prim.Native.Nat.{ℕ, ◌+◌, ◌-◌, ◌*◌, ◌≤◌, ◌<◌}
 use native.Mathlib.Omega.{arith}
 use lib.ListN.{length, take, drop, length-append, length-take, length-drop}
 use lib.Seq.{take-add, paste}
+use Rattle.std.proofs.Common.{Option, Some, None}
 use Rattle.geometry.specs.Limits.{frame_size}
 use Rattle.lists.proofs.Cuts.{rest-is}
 use Rattle.lists.proofs.Joins.{joined-append}
 use Rattle.lists.specs.Joins.{joined}
 use Rattle.text_hex.specs.Lines.{frame_of, line_of, line_size}
-use Rattle.text_hex.specs.declared.read.Reading.{Reading}
-use Rattle.text_hex.specs.declared.read.Reading.TheVariants.{Frame, Bad}
 use Rattle.text_hex.proofs.Lines.{frame-of-other-length}
 use Rattle.text_hex.proofs.Fronts.{front-with, long-with}
 use Rattle.text_hex.proofs.Written.{length-of-line}
@@ -22,10 +21,10 @@ use Rattle.text_lines.specs.declared.Gathered.{Gathered}
 use Rattle.text_lines.specs.declared.Gathering.TheVariants.{Whole, Unfinished}
 use Rattle.text_lines.proofs.Held.{kept-tells}
 use Rattle.text_lines.proofs.Taken.{line-more, nothing_left, no-line-more, more_left}
-use Rattle.protocol.specs.Frames.{eight_bytes, bytes_of_command}
-use Rattle.program_batches.specs.Batch.{draft_of, bytes_of, PutsLine, ReadsLines, BatchRead, ReadsOn, RoomForLine}
-use Rattle.protocol.specs.Frames.{eight_bytes}
-use Rattle.program_batches.specs.Batch.{draft_of, bytes_of, PutsLine, ReadsLines, ReadsOn, RoomForLine}
+use Rattle.protocol.specs.Frames.{bytes_of_frame, frame_of_answer}
+use Rattle.protocol.specs.declared.Frame.{Frame}
+use Rattle.program_batches.specs.Answers.{bad_answer, line_of_answer}
+use Rattle.program_batches.specs.Batch.{zeros, draft_of, bytes_of, PutsLine, ReadsLines, ReadsOn, RoomForLine}
 use Rattle.program_batches.specs.declared.Batch.{Batch}
 
 -- the kept bytes read as the line, where one byte more than the digits of a frame is kept: a line that was cut is too long to be one
@@ -38,44 +37,43 @@ frame-of-held line s keep holds enough =
     ∙ frame-of-other-length line (λ is. omega arith))
 
 module _ (line : List ℕ) (lines frames : ℕ) (out out' commands commands' : List ℕ) (room : line_size * (lines + 1) ≤ length out)
-    (room-for-frame : frame_size * (frames + 1) ≤ length commands) (reading : Reading) (reads : reading ≡ frame_of line) where
+    (room-for-frame : frame_size * (frames + 1) ≤ length commands) (reading : Option Frame) (reads : reading ≡ frame_of line) where
   -- a bad line was answered
-  pub bad-put : reading ≡ Bad → out' ≡ paste out (line_size * lines) (line_of 255 0 0 0 0) line_size
+  pub bad-put : reading ≡ None → out' ≡ paste out (line_size * lines) (line_of_answer bad_answer) line_size
       → PutsLine line lines frames out out' commands commands frames
   bad-put bad put =
-      let is : frame_of line ≡ Bad = sym reads ∙ bad in
+      let is : frame_of line ≡ None = sym reads ∙ bad in
+      let long : length (line_of_answer bad_answer) ≡ line_size = length-of-line (frame_of_answer bad_answer) in
       record {
-        draft = rw is (front-with out out' (line_of 255 0 0 0 0) (line_size * lines) line_size (line_size * (lines + 1)) (omega arith) (length-of-line 255 0 0 0 0) room put);
+        draft = rw is (front-with out out' (line_of_answer bad_answer) (line_size * lines) line_size (line_size * (lines + 1)) (omega arith) long room put);
         command = rw is (sym (append-nil (take (frame_size * frames) commands)));
         room = omega arith;
         one = omega arith;
-        same_out = long-with out out' (line_of 255 0 0 0 0) (line_size * lines) line_size (line_size * (lines + 1)) (omega arith) (length-of-line 255 0 0 0 0) room put;
+        same_out = long-with out out' (line_of_answer bad_answer) (line_size * lines) line_size (line_size * (lines + 1)) (omega arith) long room put;
         same_commands = refl;
       }
 
   -- a frame has its place and joined the commands
-  pub frame-put : (code name symbol fourth number : ℕ) → reading ≡ Frame code name symbol fourth number
-      → out' ≡ paste out (line_size * lines) (line_of 0 0 0 0 0) line_size
-      → commands' ≡ paste commands (frame_size * frames) (bytes_of_command (record { code = code; name = name; symbol = symbol; fourth = fourth; number = number })) frame_size
+  pub frame-put : (frame : Frame) → reading ≡ Some frame → out' ≡ paste out (line_size * lines) (line_of zeros) line_size
+      → commands' ≡ paste commands (frame_size * frames) (bytes_of_frame frame) frame_size
       → PutsLine line lines frames out out' commands commands' (frames + 1)
-  unfolding bytes_of_command
-  frame-put code name symbol fourth number frame put joins =
-      let is : frame_of line ≡ Frame code name symbol fourth number = sym reads ∙ frame in
-      let bytes : List ℕ = eight_bytes code name symbol fourth number in
+  frame-put frame spells put joins =
+      let is : frame_of line ≡ Some frame = sym reads ∙ spells in
+      let bytes : List ℕ = bytes_of_frame frame in
       let same : length commands' ≡ length commands =
       long-with commands commands' bytes (frame_size * frames) frame_size (frame_size * (frames + 1)) (omega arith) refl room-for-frame joins
       in
       record {
-        draft = rw is (front-with out out' (line_of 0 0 0 0 0) (line_size * lines) line_size (line_size * (lines + 1)) (omega arith) (length-of-line 0 0 0 0 0) room put);
+        draft = rw is (front-with out out' (line_of zeros) (line_size * lines) line_size (line_size * (lines + 1)) (omega arith) (length-of-line zeros) room put);
         command = rw is (front-with commands commands' bytes (frame_size * frames) frame_size (frame_size * (frames + 1)) (omega arith) refl room-for-frame joins);
         room = omega arith;
         one = omega arith;
-        same_out = long-with out out' (line_of 0 0 0 0 0) (line_size * lines) line_size (line_size * (lines + 1)) (omega arith) (length-of-line 0 0 0 0 0) room put;
+        same_out = long-with out out' (line_of zeros) (line_size * lines) line_size (line_size * (lines + 1)) (omega arith) (length-of-line zeros) room put;
         same_commands = same;
       }
 
 -- one line more, joined
-joined-more : (f : Reading → List ℕ) (lines : List (List ℕ)) (line : List ℕ)
+joined-more : (f : Option Frame → List ℕ) (lines : List (List ℕ)) (line : List ℕ)
     → joined f (map frame_of (lines ++ (line ∷ []))) ≡ joined f (map frame_of lines) ++ f (frame_of line)
 joined-more f lines line =
     ap (joined f) (map-append frame_of lines (line ∷ []))
@@ -207,34 +205,3 @@ pub record ReadSoFar (chunk : List ℕ) (before : Gathered) (keep keep' out out'
 pub read_none : (chunk : List ℕ) (before : Gathered) (keep out commands : List ℕ)
     → ReadSoFar chunk before keep keep out out commands commands (record { taken = 0; lines = 0; frames = 0; line = before })
 read_none chunk before keep out commands = record { reads = reads_none chunk before keep out commands; same_out = refl; same_commands = refl }
-
-module _ (chunk : List ℕ) (before : Gathered) (keep keep' out out' commands commands' : List ℕ) (batch : Batch)
-    (so_far : ReadSoFar chunk before keep keep' out out' commands commands' batch) where
-  -- one step more
-  module _ (keep'' out'' commands'' : List ℕ) (result : Batch) (on : ReadsOn chunk batch keep' keep'' out' out'' commands' commands'' result) where
-    pub read_more : ReadSoFar chunk before keep keep'' out out'' commands commands'' result
-    read_more =
-        record {
-          reads = on.reads before keep so_far.reads;
-          same_out = on.same_out ∙ so_far.same_out;
-          same_commands = on.same_commands ∙ so_far.same_commands;
-        }
-
-    pub read-less : length chunk - result.taken < length chunk - batch.taken
-    read-less = omega (arith, on.onward, (on.reads before keep so_far.reads).within)
-
-  read-with : (line_size ≤ length out → frame_size ≤ length commands → 0 < length chunk → 0 < batch.taken)
-      → BatchRead chunk before keep keep' out out' commands commands' batch
-  read-with onward = record { reads = so_far.reads; onward = onward; same_out = so_far.same_out; same_commands = so_far.same_commands }
-
-  -- there is no room for a line more, so one was read where there was room for one
-  pub lines-full : length out' / line_size ≤ batch.lines → BatchRead chunk before keep keep' out out' commands commands' batch
-  lines-full full = read-with (λ room more some. omega (arith, so_far.same_out, so_far.reads.few))
-
-  -- or none for a frame more
-  pub frames-full : length commands' / frame_size ≤ batch.frames → BatchRead chunk before keep keep' out out' commands commands' batch
-  frames-full full = read-with (λ room more some. omega (arith, so_far.same_commands, so_far.reads.few, so_far.reads.few_frames))
-
-  -- or the chunk is at its end
-  pub all_read : length chunk ≤ batch.taken → BatchRead chunk before keep keep' out out' commands commands' batch
-  all_read over = read-with (λ room more some. omega arith)

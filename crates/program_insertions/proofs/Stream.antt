@@ -19,8 +19,9 @@ use Rattle.text_lines.specs.declared.Gathering.TheVariants.{Whole, Unfinished}
 use Rattle.text_lines.proofs.Chunks.{rest_some, step-within, step_less}
 use Rattle.text_lines.proofs.Held.{lines-all-ended, lines-one-open}
 use Rattle.text_lines.proofs.Taken.{line-more, nothing_left, no-line-more, more_left}
-use Rattle.protocol.specs.Commands.{insert_code}
-use Rattle.program_insertions.specs.Frames.{file, frame_at, frames_of_file, frames_from, frames_of_lines, frame_after}
+use Rattle.protocol.specs.Frames.{frame_of_command}
+use Rattle.protocol.specs.declared.Frame.{Frame}
+use Rattle.program_insertions.specs.Frames.{insertion, frame_at, frames_of_file, frames_from, frames_of_lines, frame_after}
 use Rattle.program_insertions.specs.Stream.{FileFollows, FileStarts, FileTakesIn, GoesOn, PutsFrame, FileEnds}
 use Rattle.program_insertions.specs.declared.Progress.{Progress}
 use Rattle.program_insertions.specs.declared.FileTaken.{FileTaken}
@@ -187,19 +188,19 @@ module _ (chunk : List ℕ) (before between : Progress) (keep keep₁ out out₁
   chunk-used over = record { takes = so_far.takes; onward = λ room some. omega arith }
 
 -- the frame of a line below the limit has been written behind what was filled
-pub frame-put : (line : List ℕ) (lines : ℕ) (out out' : List ℕ) (filled : ℕ) (mark : ℕ) → filled + line_size ≤ length out → lines < most_marks → mark ≡ mark_of line
-    → out' ≡ paste out filled (line_of insert_code file mark 0 (lines + 1)) line_size → PutsFrame line lines out out' filled (filled + line_size)
+pub frame-put : (line : List ℕ) (lines : ℕ) (out out' : List ℕ) (filled mark : ℕ) (frame : Frame) → filled + line_size ≤ length out → lines < most_marks
+    → mark ≡ mark_of line → frame ≡ frame_of_command (insertion (lines + 1) mark) → out' ≡ paste out filled (line_of frame) line_size
+    → PutsFrame line lines out out' filled (filled + line_size)
 unfolding frame_after frame_at
-frame-put line lines out out' filled mark room below is put =
-    let frame : List ℕ = line_of insert_code file mark 0 (lines + 1) in
-    let long : length frame ≡ line_size = length-of-line insert_code file mark 0 (lines + 1) in
-    let same : length out' ≡ length out = long-with out out' frame filled line_size (filled + line_size) refl long room put in
+frame-put line lines out out' filled mark frame room below is inserts put =
+    let long : length (line_of frame) ≡ line_size = length-of-line frame in
+    let same : length out' ≡ length out = long-with out out' (line_of frame) filled line_size (filled + line_size) refl long room put in
     record {
       long = same;
       room = omega arith;
       frame =
-          front-with out out' frame filled line_size (filled + line_size) refl long room put
-          ∙ ap (λ l. take filled out ++ l) (rw (lt-ltb lines most_marks below, is));
+          front-with out out' (line_of frame) filled line_size (filled + line_size) refl long room put
+          ∙ ap (λ l. take filled out ++ l) (rw (lt-ltb lines most_marks below, inserts, is));
     }
 
 -- past the limit nothing is written

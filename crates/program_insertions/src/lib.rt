@@ -7,7 +7,7 @@ ghost use Rattle.text_hex.specs.Lines.{line_size};
 ghost use Rattle.program_insertions.specs.Stream.{FileStarts, PutsFrame, GoesOn, FileEnds};
 
 use geometry::Record;
-use protocol::Command;
+use protocol::{Command, Frame};
 use text_fixed_form::mark;
 use text_hex::{LINE_SIZE, write_line};
 use text_lines::{Gathered, Gathering, first_bytes, gather};
@@ -124,15 +124,14 @@ fn put_frame(line: &[u8], lines: usize, out: &mut [u8], filled: usize) -> usize
     ensures { PutsFrame line.now lines out.old out.new filled result }
 {
     if lines < Record::MOST_MARKS {
-        write_line(
-            out,
-            filled,
-            Command::INSERT,
-            FILE,
-            mark(line),
-            0,
-            (lines + 1) as u32,
-        );
+        let insertion = Command {
+            code: Command::INSERT,
+            name: FILE,
+            symbol: mark(line),
+            fourth: 0,
+            number: (lines + 1) as u32,
+        };
+        write_line(out, filled, Frame::from(insertion));
         return filled + LINE_SIZE;
     }
     filled
