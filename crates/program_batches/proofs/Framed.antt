@@ -6,13 +6,14 @@ use Prim.Native.Nat.{ℕ, ◌*◌, ◌^◌, ◌<◌}
 use native.Mathlib.Omega.{arith}
 use lib.Dec.{eqb}
 use lib.ListN.{length, take, drop, length-append, length-take}
+use Rattle.std.proofs.lemmas.Bool.{and_parts}
 use Rattle.std.proofs.Common.{Option, Some, None}
 use Rattle.geometry.specs.Limits.{frame_size}
 use Rattle.lists.specs.Joins.{joined}
 use Rattle.text_hex.specs.Digits.{all_digits, number_of_digits}
 use Rattle.text_hex.specs.Lines.{frame_of, spelled, line_digits, is_frame}
 use Rattle.text_hex.proofs.Lines.{all-digits-part}
-use Rattle.text_hex.proofs.Digits.{second-of-both, number_fits}
+use Rattle.text_hex.proofs.Digits.{number_fits}
 use Rattle.protocol.specs.Frames.{bytes_of_frame, command_in, Fitting}
 use Rattle.protocol.specs.declared.Frame.{Frame}
 use Rattle.protocol.specs.declared.Command.{Command}
@@ -51,7 +52,7 @@ fits-spelled line digits =
 -- what a line spells fits
 pub fits_line : (line : List ℕ) → Fits (frame_of line)
 unfolding frame_of
-fits_line line = go (is_frame line) (λ is. second-of-both (eqb (length line) line_digits) (all_digits line) is)
+fits_line line = go (is_frame line) (λ is. (and_parts (eqb (length line) line_digits) (all_digits line) is).1)
   where
     go : (is : Bool) → (is ≡ true → all_digits line ≡ true) → Fits (cond is (Some (spelled line)) None)
     go true digits = fits-spelled line (digits refl)

@@ -11,6 +11,7 @@ use lib.Dec.{ltb}
 use lib.ListN.{length, get_or, drop, length-append}
 use lib.Seq.{drop-cons}
 use borrow.Author.Tests.{lt-ltb, ltb-true}
+use Rattle.std.proofs.lemmas.Bool.{and_parts}
 use Rattle.std.proofs.lemmas.List.Folds.{list_all-append}
 use Rattle.text_hex.specs.Digits.{value_of, digit_of, digits_of, all_digits, number_after, number_of_digits}
 use Rattle.text_hex.proofs.Rules.{values-at}
@@ -30,21 +31,12 @@ pub number-grows : (above : ℕ) (bytes : List ℕ) → above ≤ number_after a
 number-grows above [] = omega arith
 number-grows above (byte ∷ bytes) = omega (arith, number-grows (above * 16 + value_of byte) bytes)
 
--- both parts of a test
-pub first-of-both : (a b : Bool) → (a && b) ≡ true → a ≡ true
-first-of-both true b both = refl
-first-of-both false b both = both
-
-pub second-of-both : (a b : Bool) → (a && b) ≡ true → b ≡ true
-second-of-both true b both = both
-second-of-both false b both = absurd (let z : ◌≡◌ {A = ℕ} 0 1 = cc in omega arith)
-
 pub number-after-fits : (above : ℕ) (bytes : List ℕ) → all_digits bytes ≡ true → number_after above bytes < (above + 1) * 16 ^ length bytes
 number-after-fits above [] digits = omega (arith, mul-one (above + 1))
 number-after-fits above (byte ∷ bytes) digits =
-    let value : value_of byte < 16 = ltb-true (value_of byte) 16 (first-of-both (ltb (value_of byte) 16) (all_digits bytes) digits) in
+    let value : value_of byte < 16 = ltb-true (value_of byte) 16 (and_parts (ltb (value_of byte) 16) (all_digits bytes) digits).0 in
     let rest : number_after (above * 16 + value_of byte) bytes < (above * 16 + value_of byte + 1) * 16 ^ length bytes =
-    number-after-fits (above * 16 + value_of byte) bytes (second-of-both (ltb (value_of byte) 16) (all_digits bytes) digits)
+    number-after-fits (above * 16 + value_of byte) bytes (and_parts (ltb (value_of byte) 16) (all_digits bytes) digits).1
     in
     let step : (above * 16 + value_of byte + 1) * 16 ^ length bytes ≤ ((above + 1) * 16) * 16 ^ length bytes =
     mul-le-mul_right (16 ^ length bytes) (omega arith)

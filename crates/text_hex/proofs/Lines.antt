@@ -12,25 +12,26 @@ use lib.Seq.{take_at, drop_at, take_all, drop-drop}
 use mir.Syntax.{w8}
 use mir.Val.{Fits}
 use Rattle.std.proofs.Common.{Some, None}
+use Rattle.std.proofs.lemmas.Bool.{and_parts}
 use Rattle.std.proofs.lemmas.List.Folds.{list_all-append}
 use Rattle.text_hex.specs.Digits.{value_of, all_digits, number_of_digits, digits_of}
 use Rattle.text_hex.specs.Lines.{line_digits, spelled, frame_of, numbers_of, digits_of_frame}
 use Rattle.protocol.specs.declared.Frame.{Frame}
 use Rattle.text_hex.proofs.Written.{length-of-frame}
-use Rattle.text_hex.proofs.Digits.{first-of-both, second-of-both, digits-are-digits, length-of-digits, number_fits, number-of-digits}
+use Rattle.text_hex.proofs.Digits.{digits-are-digits, length-of-digits, number_fits, number-of-digits}
 
 -- digits stay digits in a part of the line
 all-digits-drop : (many : ℕ) (bytes : List ℕ) → all_digits bytes ≡ true → all_digits (drop many bytes) ≡ true
 all-digits-drop zero bytes digits = digits
 all-digits-drop (suc many) [] digits = refl
-all-digits-drop (suc many) (byte ∷ bytes) digits = all-digits-drop many bytes (second-of-both (ltb (value_of byte) 16) (all_digits bytes) digits)
+all-digits-drop (suc many) (byte ∷ bytes) digits = all-digits-drop many bytes (and_parts (ltb (value_of byte) 16) (all_digits bytes) digits).1
 
 all-digits-take : (many : ℕ) (bytes : List ℕ) → all_digits bytes ≡ true → all_digits (take many bytes) ≡ true
 all-digits-take zero bytes digits = refl
 all-digits-take (suc many) [] digits = refl
 all-digits-take (suc many) (byte ∷ bytes) digits =
-    rw (first-of-both (ltb (value_of byte) 16) (all_digits bytes) digits)
-    (all-digits-take many bytes (second-of-both (ltb (value_of byte) 16) (all_digits bytes) digits))
+    rw (and_parts (ltb (value_of byte) 16) (all_digits bytes) digits).0
+    (all-digits-take many bytes (and_parts (ltb (value_of byte) 16) (all_digits bytes) digits).1)
 
 pub all-digits-part : (from many : ℕ) (bytes : List ℕ) → all_digits bytes ≡ true → all_digits (take many (drop from bytes)) ≡ true
 all-digits-part from many bytes digits = all-digits-take many (drop from bytes) (all-digits-drop from bytes digits)
