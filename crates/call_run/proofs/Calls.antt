@@ -1,11 +1,16 @@
 -- A call once its tests are done: refused, or with a map for its frames.
 use mathlib.Core.Path.{◌≡◌, refl, ◌∙◌}
 use mathlib.Core.List.{List}
+use mathlib.Core.Logic.{◌≢◌}
 use Prim.Native.Nat.{ℕ, ◌/◌, ◌^◌, ◌≤◌, ◌<◌}
 use native.Mathlib.Omega.{arith}
 use lib.ListN.{length, take, length-take}
 use lib.Seq.{get_or-take}
+use Rattle.std.specs.Prelude.{Ok, Err}
+use Rattle.call_tests.specs.Outcomes.{number_of_error, call_outcome}
 use Rattle.call_tests.specs.Tests.{Judged}
+use Rattle.call_tests.specs.declared.CallError.{CallError}
+use Rattle.call_tests.specs.declared.CallError.TheVariants.{PoolLength, CommandsLength, RoomShort, NotSound}
 use Rattle.geometry.specs.Limits.{directory_size, most_shares, frame_size}
 use Rattle.pool.specs.Bytes.{shares}
 use Rattle.pool.specs.Sound.{LengthAllowed}
@@ -25,15 +30,23 @@ map-cut p map allowed long of =
       };
     }
 
--- A call whose tests are done.
-module _ (p commands room map : List ℕ) (status : ℕ) (judged : Judged p commands room status map) where
-  -- refused, it changes nothing
-  pub call-refused : (status ≡ 0 → ⊥) → Ran p commands room (record { status = status; count = 0 }) p room
-  call-refused some = record { status = judged.tested; refused = λ _. (refl, refl, refl); accepted = λ e. absurd (some e) }
+-- no error's number is 0, which tells that there is none
+number-some : (error : CallError) → number_of_error error ≢ 0
+number-some PoolLength e = omega arith
+number-some CommandsLength e = omega arith
+number-some RoomShort e = omega arith
+number-some NotSound e = omega arith
 
-  module _ (done : status ≡ 0) where
+-- A call whose tests are done.
+module _ (p commands room map : List ℕ) where
+  -- refused, it changes nothing
+  pub call-refused : (error : CallError) → Judged p commands room (number_of_error error) map → Ran p commands room (call_outcome (Err error)) p room
+  call-refused error judged =
+      record { status = judged.tested; refused = λ _. (refl, refl, refl); accepted = λ e. absurd (number-some error e) }
+
+  module _ (judged : Judged p commands room 0 map) where
     passed : TestsPassed p commands room
-    passed = all-passed p commands room status done judged.tested
+    passed = all-passed p commands room 0 refl judged.tested
 
     -- the pool's shares are a part of the map
     pub directory-inside : directory_size ≤ length p
@@ -42,7 +55,7 @@ module _ (p commands room map : List ℕ) (status : ℕ) (judged : Judged p comm
     -- the part of the map that so many shares need
     module _ (many : ℕ) (all : many ≡ shares p) where
       pub shares-inside : many ≤ length map
-      shares-inside = omega (arith, passed.allowed.longest, judged.long done)
+      shares-inside = omega (arith, passed.allowed.longest, judged.long refl)
 
       pub part-long : many ≡ length (take many map)
       part-long = omega (arith, length-take many map, shares-inside)
@@ -56,17 +69,17 @@ module _ (p commands room map : List ℕ) (status : ℕ) (judged : Judged p comm
         record {
           ready = record {
             sound = passed.sound;
-            map = rw all (map-cut p map passed.allowed (judged.long done) (judged.holders done));
+            map = rw all (map-cut p map passed.allowed (judged.long refl) (judged.holders refl));
           };
           allowed = passed.frames;
           fits = passed.fits;
         }
 
     pub call-done : (q filled : List ℕ) → FramesRun p commands room q filled
-        → Ran p commands room (record { status = 0; count = length commands / frame_size }) q filled
+        → Ran p commands room (call_outcome (Ok (length commands / frame_size))) q filled
     call-done q filled run =
         record {
-          status = rw done at judged.tested;
+          status = judged.tested;
           refused = λ some. absurd (some refl);
           accepted = λ _. run;
         }

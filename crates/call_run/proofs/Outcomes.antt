@@ -9,7 +9,7 @@ use native.Mathlib.Omega.{arith}
 use lib.ListN.{length, drop}
 use Rattle.lists.specs.Joins.{joined}
 use Rattle.call_tests.specs.Tests.{CommandsAllowed, StatusOfCall}
-use Rattle.call_tests.specs.declared.Outcome.{Outcome}
+use Rattle.call_tests.specs.Outcomes.{Outcome}
 use Rattle.geometry.specs.Limits.{block_size, shortest_pool, longest_pool}
 use Rattle.machine.specs.Machine.{trees}
 use Rattle.pool.specs.Meaning.{meaning}

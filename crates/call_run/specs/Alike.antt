@@ -1,6 +1,6 @@
 -- Two outcomes that a call's contract allows.
 use Rattle.std.specs.Prelude.{◌≡◌, List, ℕ}
-use Rattle.call_tests.specs.declared.Outcome.{Outcome}
+use Rattle.call_tests.specs.Outcomes.{Outcome}
 use Rattle.pool.specs.Meaning.{meaning}
 
 -- the same status, count and answer room, and pools that mean the same

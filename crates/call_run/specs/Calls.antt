@@ -2,7 +2,7 @@
 use Rattle.std.specs.Prelude.{◌≡◌, List, ◌++◌, ◌≢◌, ℕ, length, drop}
 use Rattle.lists.specs.Joins.{joined}
 use Rattle.call_tests.specs.Tests.{StatusOfCall}
-use Rattle.call_tests.specs.declared.Outcome.{Outcome}
+use Rattle.call_tests.specs.Outcomes.{Outcome}
 use Rattle.call_run.specs.Runs.{Runs, commands_in}
 use Rattle.pool.specs.Formatted.{formatted}
 use Rattle.pool.specs.Sound.{LengthAllowed}

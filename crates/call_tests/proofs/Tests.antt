@@ -3,23 +3,14 @@ use mathlib.Core.Bool.{Bool, true, false}
 use mathlib.Core.Path.{◌≡◌, refl}
 use mathlib.Core.List.{List}
 use mathlib.Core.Logic.{◌≢◌, inl, inr}
-use Prim.Native.Nat.{ℕ, ◌%◌, ◌≤◌, ◌<◌}
+use Prim.Native.Nat.{ℕ, ◌≤◌, ◌<◌}
 use native.Mathlib.Omega.{arith}
-use lib.Dec.{leb}
 use lib.ListN.{length}
-use Rattle.geometry.specs.Limits.{frame_size, longest_commands}
 use Rattle.pool.specs.Sound.{LengthAllowed}
 use Rattle.pool_check.specs.Parts.{Checked}
 use Rattle.pool_check.specs.Says.{Says}
-use Rattle.pool_check.proofs.Deciding.{say-no, say-same, say-at-most, denied}
+use Rattle.pool_check.proofs.Deciding.{denied}
 use Rattle.call_tests.specs.Tests.{CommandsAllowed, StatusOfCall, Judged}
-
--- The length of the commands, test by test.
-pub part-of-a-frame : (bytes : ℕ) → (bytes % frame_size ≡ 0 → ⊥) → Says false (CommandsAllowed bytes)
-part-of-a-frame bytes part = say-no (λ a. part a.whole)
-
-pub at-most-all : (bytes : ℕ) → bytes % frame_size ≡ 0 → Says (leb bytes longest_commands) (CommandsAllowed bytes)
-at-most-all bytes whole = say-same (λ l. record { whole = whole; most = l }) (λ a. a.most) (say-at-most bytes longest_commands)
 
 -- The tests of a call, each where those before it passed.
 module _ (p commands room map : List ℕ) where

@@ -1,62 +1,63 @@
-// A call's outcome, and the tests that it must pass, in their order.
+// The tests that a call must pass, in their order, and the errors that refuse it.
 #![tactic(auto)]
 
+ghost use Rattle.std.specs.Prelude.{◌≡◌};
 ghost use Rattle.pool_check.specs.Says.{Says};
+ghost use Rattle.call_tests.specs.Outcomes.{number_of_error, call_status};
 ghost use Rattle.call_tests.specs.Tests.{CommandsAllowed, Judged};
 
 use geometry::Record;
 use pool_check::{check, length_allowed};
 
-// What a call came to: its status, and the number of frames run.
-#[derive(Clone, Copy)]
-pub struct Outcome {
-    pub status: u32,
-    pub count: u32,
-}
-
-impl Outcome {
-    // the call was accepted
-    pub const DONE: u32 = 0;
+// Why a call is refused; its number is the call's status.
+#[derive(Clone, Copy, PartialEq, Eq)]
+pub enum CallError {
     // the pool's length isn't allowed
-    pub const POOL_LENGTH: u32 = 101;
+    PoolLength = 101,
     // the commands' length isn't a whole number of frames, or is too large
-    pub const COMMANDS_LENGTH: u32 = 102;
+    CommandsLength = 102,
     // the answer room is shorter than the commands
-    pub const ROOM_SHORT: u32 = 103;
+    RoomShort = 103,
     // the pool isn't sound
-    pub const NOT_SOUND: u32 = 104;
+    NotSound = 104,
 }
 
-// The status of a call, one test after the other. Where none refuses it, the map says who holds each block.
+impl From<CallError> for u32 {
+    ghost from_gives = { λ error status. status ≡ number_of_error error };
+
+    // The call's status.
+    fn from(error: CallError) -> u32 {
+        error as u32
+    }
+}
+
+// The tests of a call, one after the other. Where all are passed, the map says who holds each block.
 pub fn status_of_call(
     pool: &[u8],
     commands: &[u8],
     answers: &[u8],
     map: &mut [u8; Record::MOST_SHARES],
-) -> u32
-    ensures { Judged pool.now commands.now answers.now result map.new }
+) -> Result<(), CallError>
+    ensures { Judged pool.now commands.now answers.now (call_status result) map.new }
 {
     if !length_allowed(pool.len()) {
-        return Outcome::POOL_LENGTH;
+        return Err(CallError::PoolLength);
     }
     if !commands_allowed(commands.len()) {
-        return Outcome::COMMANDS_LENGTH;
+        return Err(CallError::CommandsLength);
     }
     if answers.len() < commands.len() {
-        return Outcome::ROOM_SHORT;
+        return Err(CallError::RoomShort);
     }
     if !check(pool, map) {
-        return Outcome::NOT_SOUND;
+        return Err(CallError::NotSound);
     }
-    Outcome::DONE
+    Ok(())
 }
 
 // Whether commands may have so many bytes.
 fn commands_allowed(bytes: usize) -> bool
     ensures { Says result (CommandsAllowed bytes) }
 {
-    if bytes % Record::FRAME_SIZE != 0 {
-        return false;
-    }
-    bytes <= Record::LONGEST_COMMANDS
+    bytes % Record::FRAME_SIZE == 0 && bytes <= Record::LONGEST_COMMANDS
 }

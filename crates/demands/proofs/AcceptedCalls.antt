@@ -14,7 +14,7 @@ use Rattle.call_run.proofs.Runs.{runs-many, runs-long, runs-sound}
 use Rattle.call_run.proofs.Outcomes.{TestsPassed, all-passed}
 use Rattle.call_run.specs.Calls.{Ran}
 use Rattle.call_run.specs.Runs.{Runs, eights, commands_in}
-use Rattle.call_tests.specs.declared.Outcome.{Outcome}
+use Rattle.call_tests.specs.Outcomes.{Outcome}
 use Rattle.pool.specs.Sound.{Sound}
 use Rattle.protocol.proofs.Frames.{length-of-answer}
 use Rattle.protocol.specs.Frames.{bytes_of_answer}

@@ -16,7 +16,7 @@ use Rattle.forfochry.proofs.run.Met as RunMet
 use Rattle.call_run.proofs.Outcomes.{length-cases, same_outcome}
 use Rattle.call_run.specs.Calls.{Formats, Ran}
 use Rattle.call_run.specs.Runs.{commands_in}
-use Rattle.call_tests.specs.declared.Outcome.{Outcome}
+use Rattle.call_tests.specs.Outcomes.{Outcome}
 use Rattle.machine.specs.Machine.{trees}
 use Rattle.pool.specs.Meaning.{meaning}
 use Rattle.protocol.proofs.Respond.{refused-answers-zeros}

@@ -24,6 +24,7 @@ use Rattle.protocol.specs.Refusals.{refusals, status_of}
 use Rattle.protocol.specs.Respond.{reply, respond}
 use Rattle.protocol.specs.State.{fresh_state, part_of, unpromised}
 use Rattle.protocol.specs.declared.Answer.{Answer}
+use Rattle.protocol.specs.declared.numbers.Reason.TheVariants.{SharesExceeded}
 use Rattle.demands.specs.Accepted.{Fresh, Call, Session, commands_of, answers_of}
 use Rattle.demands.specs.Demand3.{commands_to, openings_in, AnsweredAlike}
 use Rattle.demands.proofs.FreshFrames.{one_frame, one-frame-session, is-fresh, free_map, fresh-ready, two, two-allowed, two_opened, two-opened}
@@ -56,7 +57,7 @@ status-in-two = ap (λ s. status_of trees (unpromised s) (part_of s 0) (command_
 
 refused-in-one : Step (formatted 640) (command_of opening) (refuses 0 12) (formatted 640)
 unfolding command_of
-refused-in-one = (refused-steps (formatted 640) (free_map 640 one-allowed) (command_of opening) (fresh-ready 640 one-allowed) 12 (refuses 0 12) (sym status-in-one) (λ e. omega arith) refl).step
+refused-in-one = (refused-steps (formatted 640) (free_map 640 one-allowed) (command_of opening) (fresh-ready 640 one-allowed) SharesExceeded (sym status-in-one)).step
 
 opened-in-two : Step two (command_of opening) (gives 0 0) two_opened
 unfolding command_of

@@ -2,7 +2,7 @@
 use Rattle.std.specs.Prelude.{◌≡◌, List, [], ◌∷◌, ◌++◌, ℕ, length, take}
 use Rattle.call_run.specs.Calls.{Formats, Ran}
 use Rattle.call_run.specs.Runs.{Runs, eights, commands_in}
-use Rattle.call_tests.specs.declared.Outcome.{Outcome}
+use Rattle.call_tests.specs.Outcomes.{Outcome}
 use Rattle.protocol.specs.declared.Answer.{Answer}
 use Rattle.protocol.specs.declared.Command.{Command}
 

@@ -22,7 +22,7 @@ use Rattle.call_run.specs.Alike.{SameOutcome}
 use Rattle.call_tests.specs.Tests.{StatusOfCall}
 use Rattle.call_run.specs.Calls.{Formats, Ran}
 use Rattle.call_run.specs.Runs.{commands_in}
-use Rattle.call_tests.specs.declared.Outcome.{Outcome}
+use Rattle.call_tests.specs.Outcomes.{Outcome, call_outcome, call_status}
 use Rattle.pool.specs.Formatted.{formatted}
 use Rattle.pool.specs.Sound.{LengthAllowed}
 use Rattle.protocol.specs.Frames.{bytes_of_answer}
@@ -95,8 +95,8 @@ pub record Keeps (n : ℕ) (Args Result Exit : Lfts n → Type 0) (statement : T
 -- the three calls, for programs in Rattle
 pub record Demand1Ends : Type 2 where
   pub format : Keeps 1 (ArgsD format.signature) (ResD format.signature) (AtExit format.ended) Format.statement FormatReads.requires
-      FormatReads.ensures (λ κs a r s. Formats a.0.now r s.0.now)
+      FormatReads.ensures (λ κs a r s. Formats a.0.now (call_status r) s.0.now)
   pub run : Keeps 3 (ArgsD run.signature) (ResD run.signature) (AtExit run.ended) Run.statement RunReads.requires RunReads.ensures
-      (λ κs a r s. Ran a.0.now a.1.0.now a.1.1.0.now r s.0.now s.1.1.0.now)
+      (λ κs a r s. Ran a.0.now a.1.0.now a.1.1.0.now (call_outcome r) s.0.now s.1.1.0.now)
   pub mark : Keeps 1 (ArgsD mark.signature) (ResD mark.signature) (AtExit mark.ended) Mark.statement MarkReads.requires MarkReads.ensures
       (λ κs a r s. r ≡ mark_of a.0.now)

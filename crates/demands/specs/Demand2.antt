@@ -5,7 +5,7 @@ use Rattle.std.specs.Prelude.{◌≡◌, List, ◌++◌, map, ◌↔◌, ◌≢�
 use Rattle.lists.specs.Items.{All}
 use Rattle.geometry.specs.Limits.{names, marks_per_share}
 use Rattle.call_run.specs.Calls.{Ran}
-use Rattle.call_tests.specs.declared.Outcome.{Outcome}
+use Rattle.call_tests.specs.Outcomes.{Outcome}
 use Rattle.machine.specs.Machine.{trees}
 use Rattle.pool.specs.Blocks.{leaf_marks}
 use Rattle.pool.specs.Bytes.{shares}

@@ -6,7 +6,7 @@ use Rattle.std.specs.Prelude.{◌≡◌, List, [], ◌∷◌, ◌++◌, map, ◌
 use Rattle.geometry.specs.Limits.{names}
 use Rattle.lists.specs.Items.{All}
 use Rattle.call_run.specs.Calls.{Ran}
-use Rattle.call_tests.specs.declared.Outcome.{Outcome}
+use Rattle.call_tests.specs.Outcomes.{Outcome}
 use Rattle.machine.specs.Machine.{trees}
 use Rattle.machine.specs.OneName.{beside, is_to, is_opening, frames_to}
 use Rattle.pool.specs.Meaning.{meaning_of}

@@ -5,9 +5,10 @@
 ghost use Rattle.std.specs.Prelude.{◌≡◌};
 ghost use Rattle.forfochry_c.specs.Numbers.{outcome_of};
 ghost use Rattle.text_fixed_form.specs.Mark.{mark_of};
+ghost use Rattle.call_tests.specs.Outcomes.{call_outcome, call_status};
 ghost use Rattle.call_run.specs.Calls.{Formats, Ran};
 
-use call_tests::Outcome;
+use call_tests::CallError;
 
 // what one in the upper half of a number of 64 bits counts
 const UPPER_HALF: u64 = 4294967296;
@@ -16,7 +17,7 @@ const UPPER_HALF: u64 = 4294967296;
 pub extern "C" fn forfochry_format(pool: &mut [u8]) -> u32
     ensures { Formats pool.old result pool.new }
 {
-    forfochry::format(pool)
+    status(forfochry::format(pool))
 }
 
 // The status in the upper half of the number, the count of frames run in the lower.
@@ -34,9 +35,22 @@ pub extern "C" fn forfochry_mark(line: &[u8]) -> u8
     forfochry::mark(line)
 }
 
-// The outcome as one number, as `outcome_of` reads it.
-fn number(outcome: Outcome) -> u64
-    ensures { outcome_of result ≡ outcome }
+// The status of a call with this result: 0 where nothing refuses it.
+fn status(done: Result<(), CallError>) -> u32
+    ensures { result ≡ call_status done }
 {
-    outcome.status as u64 * UPPER_HALF + outcome.count as u64
+    match done {
+        Ok(()) => 0,
+        Err(error) => u32::from(error),
+    }
+}
+
+// The outcome of a call as one number, as `outcome_of` reads it.
+fn number(run: Result<u32, CallError>) -> u64
+    ensures { outcome_of result ≡ call_outcome run }
+{
+    match run {
+        Ok(count) => u64::from(count),
+        Err(error) => u64::from(u32::from(error)) * UPPER_HALF,
+    }
 }

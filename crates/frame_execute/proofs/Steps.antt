@@ -17,7 +17,7 @@ use Rattle.pool.specs.Bytes.{shares}
 use Rattle.pool.specs.Meaning.{meaning}
 use Rattle.pool.specs.Names.{record_of, blocks_of}
 use Rattle.pool.specs.Untouched.{SameBlocks}
-use Rattle.protocol.proofs.Accepted.{InsertAccepted, PlaceAccepted, open-accepted, close-accepted, insert-accepted, delete-accepted, code-is-listed}
+use Rattle.protocol.proofs.Accepted.{InsertAccepted, PlaceAccepted, open-accepted, close-accepted, insert-accepted, delete-accepted}
 use Rattle.protocol.proofs.Respond.{respond-status, refused-keeps-state, refused-answers-zeros, query-keeps-state}
 use Rattle.protocol.specs.Commands.{
   Effect,
@@ -37,6 +37,11 @@ use Rattle.protocol.specs.Respond.{accepted, refused, respond}
 use Rattle.protocol.specs.State.{Part, closed, opened, alphabet_of, shares_of, marks_of, part_of, unpromised}
 use Rattle.protocol.specs.declared.Answer.{Answer}
 use Rattle.protocol.specs.declared.Command.{Command}
+use Rattle.protocol.specs.declared.numbers.Operation.{Operation}
+use Rattle.protocol.specs.declared.numbers.Operation.TheVariants.{Open, Close, Insert, Delete, Access, Rank, Select, Length, Unpromised}
+use Rattle.protocol.specs.declared.numbers.Reason.{Reason}
+use Rattle.protocol.specs.Numbers.{code_of, number_of_reason}
+use Rattle.protocol.proofs.Reasons.{numbers-from-one}
 use Rattle.frame_queries.proofs.Effects.{
   ToOpen,
   effect_in,
@@ -51,9 +56,7 @@ use Rattle.frame_queries.specs.Accepted.{answer_of}
 use Rattle.sequence.specs.Definition1.{access}
 use Rattle.shape.specs.Sizes.{one_to_a_byte}
 use Rattle.shape.specs.Trees.{Tree, empty_t, insert_t, delete_t}
-use Rattle.frame_status.proofs.Codes.{listed-within}
-use Rattle.frame_status.proofs.Forms.{name_below}
-use Rattle.frame_status.specs.Statuses.{status_in, WellFormed, FormStatus, Naming}
+use Rattle.frame_status.specs.Statuses.{status_in}
 use Rattle.name_edits.specs.Edits.{InsertAt, DeleteAt, InsertedAt, DeletedAt}
 use Rattle.frame_execute.specs.Steps.{is_change, Kept, Stepped, Ready}
 
@@ -82,35 +85,32 @@ module _ (p m : List ℕ) (c : Command) (ready : Ready p m) where
         map = ready.map;
       }
 
-  pub refused-steps : (status : ℕ) (a : Answer) → status ≡ status_in p c → (status ≡ 0 → ⊥) → a ≡ refused status c → Stepped p c a p m
-  refused-steps status a is some told =
-      let given : (respond trees (meaning p) c).answer.status ≡ status = respond-status trees (meaning p) c ∙ sym is in
-      let refusal : (respond trees (meaning p) c).answer.status ≢ 0 = λ none. some (sym given ∙ none) in
-      stays-itself a
-      (told ∙ ap (λ s. refused s c) (sym given) ∙ sym (refused-answers-zeros trees (meaning p) c refusal))
+  pub refused-steps : (reason : Reason) → number_of_reason reason ≡ status_in p c → Stepped p c (refused (number_of_reason reason) c) p m
+  refused-steps reason is =
+      let given : (respond trees (meaning p) c).answer.status ≡ number_of_reason reason = respond-status trees (meaning p) c ∙ sym is in
+      let refusal : (respond trees (meaning p) c).answer.status ≢ 0 = λ none. absurd (omega (arith, given, none, numbers-from-one reason)) in
+      stays-itself (refused (number_of_reason reason) c)
+      (ap (λ s. refused s c) (sym given) ∙ sym (refused-answers-zeros trees (meaning p) c refusal))
       (refused-keeps-state trees (meaning p) c refusal)
-
-  -- a command refused by its form
-  pub form-steps : (status : ℕ) (a : Answer) → FormStatus c status → (status ≡ 0 → ⊥) → a ≡ refused status c → Stepped p c a p m
-  form-steps status a form some = refused-steps status a (form.refused some p) some
-
-  -- and one whose form passes
-  pub form-passes : (status : ℕ) → FormStatus c status → status ≡ 0 → WellFormed c
-  form-passes status form none = form.passed none
 
   pub asked-steps : (a : Answer) → a ≡ answer_of p c → access_code ≤ c.code → Stepped p c a p m
   asked-steps a is late = stays-itself a is (query-keeps-state trees (meaning p) c late)
 
-  pub unpromised-steps : (a : Answer) → a ≡ answer_of p c → c.code ≡ unpromised_code → Stepped p c a p m
-  unpromised-steps a is code = asked-steps a is (omega arith)
+  pub unpromised-steps : (op : Operation) → op ≡ Unpromised → code_of op ≡ c.code → (a : Answer) → a ≡ answer_of p c → Stepped p c a p m
+  unpromised-steps op is code a told = asked-steps a told (omega (arith, ap code_of is, code))
 
-  -- a well-formed command that names a name: the name's record can be read, and its tests made
-  module _ (formed : WellFormed c) (named : c.code ≢ unpromised_code) where
-    pub named-low : c.name < names
-    named-low = name_below c formed named
-
-    pub named-tests : (found : Record) → found ≡ record_of p c.name → Naming p c found
-    named-tests found read = record { sound = ready.sound; formed = formed; named = named; read = read }
+  -- what doesn't change the pool is a query
+  pub late-code : (op : Operation) → code_of op ≡ c.code → (op ≡ Open → ⊥) → (op ≡ Close → ⊥) → (op ≡ Insert → ⊥) → (op ≡ Delete → ⊥)
+      → access_code ≤ c.code
+  late-code Open code o s i d = absurd (o refl)
+  late-code Close code o s i d = absurd (s refl)
+  late-code Insert code o s i d = absurd (i refl)
+  late-code Delete code o s i d = absurd (d refl)
+  late-code Access code o s i d = omega (arith, code)
+  late-code Rank code o s i d = omega (arith, code)
+  late-code Select code o s i d = omega (arith, code)
+  late-code Length code o s i d = omega (arith, code)
+  late-code Unpromised code o s i d = omega (arith, code)
 
 -- One name changes.
 module _ (p m : List ℕ) (c : Command) (ready : Ready p m) (status : status_in p c ≡ 0) where
@@ -270,11 +270,3 @@ module _ (p m : List ℕ) (c : Command) (ready : Ready p m) (status : status_in 
           (subst (λ (part : Part Tree). Updated c.name (edited (delete_t one_to_a_byte c.number) part) p q n)
           (sym (part-meaning p c.name delete-open.low))
           done.updated))
-
-  -- the last code of a change
-  pub last-change : c.code ≤ delete_code → (c.code ≡ open_code → ⊥) → (c.code ≡ close_code → ⊥) → (c.code ≡ insert_code → ⊥) → c.code ≡ delete_code
-  last-change early no-open no-close no-insert =
-      omega (
-        arith,
-        (listed-within c.code (code-is-listed trees (unpromised (meaning p)) (part_of (meaning p) c.name) c status)).0,
-      )

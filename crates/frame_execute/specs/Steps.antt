@@ -1,5 +1,5 @@
 -- One frame: what is answered, and what becomes of the pool.
-use Rattle.std.specs.Prelude.{Bool, false, ◌≡◌, List, ◌⊎◌, ◌≢◌, ℕ, ◌<◌, length}
+use Rattle.std.specs.Prelude.{Bool, false, ◌≡◌, List, ◌⊎◌, ◌≢◌, ℕ, ◌<◌, length, Result, Ok, Err}
 use Rattle.geometry.specs.Limits.{names}
 use Rattle.machine.specs.Machine.{trees}
 use Rattle.pool_holders.specs.Maps.{Exact}
@@ -9,13 +9,20 @@ use Rattle.pool.specs.Sound.{Sound}
 use Rattle.pool.specs.Untouched.{Untouched}
 use Rattle.protocol.specs.Commands.{open_code, delete_code}
 use Rattle.protocol.specs.Refusals.{codes_between}
-use Rattle.protocol.specs.Respond.{respond}
+use Rattle.protocol.specs.Numbers.{number_of_reason}
+use Rattle.protocol.specs.Respond.{refused, respond}
 use Rattle.protocol.specs.declared.Answer.{Answer}
 use Rattle.protocol.specs.declared.Command.{Command}
+use Rattle.protocol.specs.declared.numbers.Reason.{Reason}
 
 -- the command may change the pool: an opening, a closing, an insert or a delete
 abbrev pub is_change : ℕ → Bool
 is_change code = codes_between open_code delete_code code
+
+-- the answer that a command gets: its own, or that of the reason that refuses it
+abbrev pub answer_told : Command → Result Answer Reason → Answer
+answer_told c (Ok a) = a
+answer_told c (Err reason) = refused (number_of_reason reason) c
 
 -- another name's record and the blocks that it holds, and which they are, are as before
 pub record Kept (name : ℕ) (p q : List ℕ) : Type 0 where

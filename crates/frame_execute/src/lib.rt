@@ -1,16 +1,17 @@
 // One frame executed on a sound pool: its status by the tests of RULES, Statuses, and where none applies, what the command asks.
 #![tactic(auto)]
 
-ghost use Rattle.std.specs.Prelude.{◌≢◌};
+ghost use Rattle.std.specs.Prelude.{◌≡◌, ◌≢◌};
 ghost use Rattle.protocol.specs.Commands.{unpromised_code};
+ghost use Rattle.protocol.specs.Numbers.{code_of};
 ghost use Rattle.frame_status.specs.Statuses.{WellFormed};
-ghost use Rattle.frame_execute.specs.Steps.{Ready, Stepped};
+ghost use Rattle.frame_execute.specs.Steps.{answer_told, Ready, Stepped};
 
-use crate::changes::change;
+use crate::changes::{close_name, delete_mark, insert_mark, open_name};
 use frame_queries::{ask, ask_unpromised};
 use frame_status::{form_status, status_of};
 use pool::read_record;
-use protocol::{Answer, Command};
+use protocol::{Answer, Command, Operation, Reason};
 
 mod changes;
 
@@ -19,28 +20,41 @@ pub fn execute(pool: &mut [u8], c: Command, map: &mut [u8]) -> Answer
     requires { Ready pool.old map.old }
     ensures { Stepped pool.old c result pool.new map.new }
 {
-    let form = form_status(c);
-    if form != 0 {
-        return Answer::refused(c, form);
+    match carry_out(pool, c, map) {
+        Ok(answer) => answer,
+        Err(reason) => Answer::refused(c, reason),
     }
-    if c.code == Command::UNPROMISED {
-        return ask_unpromised(pool, c);
+}
+
+// Does what a command says and answers it, unless one of the tests refuses it.
+fn carry_out(pool: &mut [u8], c: Command, map: &mut [u8]) -> Result<Answer, Reason>
+    requires { Ready pool.old map.old }
+    ensures { Stepped pool.old c (answer_told c result) pool.new map.new }
+{
+    match form_status(c)? {
+        Operation::Unpromised => Ok(ask_unpromised(pool, c)),
+        operation => carry_out_named(pool, c, operation, map),
     }
-    execute_named(pool, c, map)
 }
 
 // The same for a well-formed command to a name. The name's record is read once, here.
-fn execute_named(pool: &mut [u8], c: Command, map: &mut [u8]) -> Answer
-    requires { Ready pool.old map.old × WellFormed c × (c.code ≢ unpromised_code) }
-    ensures { Stepped pool.old c result pool.new map.new }
+fn carry_out_named(
+    pool: &mut [u8],
+    c: Command,
+    operation: Operation,
+    map: &mut [u8],
+) -> Result<Answer, Reason>
+    requires named { Ready pool.old map.old × WellFormed c × (c.code ≢ unpromised_code) }
+    requires operation { code_of operation ≡ c.code }
+    ensures { Stepped pool.old c (answer_told c result) pool.new map.new }
 {
-    let found = read_record(pool, c.name as usize);
-    let status = status_of(pool, c, found);
-    if status != 0 {
-        return Answer::refused(c, status);
+    let found = read_record(pool, usize::from(c.name));
+    status_of(pool, c, operation, found)?;
+    match operation {
+        Operation::Open => Ok(open_name(pool, c, map)),
+        Operation::Close => Ok(close_name(pool, c, map)),
+        Operation::Insert => Ok(insert_mark(pool, c, found, map)),
+        Operation::Delete => Ok(delete_mark(pool, c, found, map)),
+        _ => Ok(ask(pool, c, operation, found)),
     }
-    if c.code >= Command::ACCESS {
-        return ask(pool, c, found);
-    }
-    change(pool, c, found, map)
 }

@@ -1,6 +1,6 @@
 -- The answers to queries: each query can be asked where nothing refuses it, and what it gives is the machine's answer.
 use mathlib.Core.List.{List}
-use mathlib.Core.Path.{◌≡◌, sym, ap, ◌∙◌}
+use mathlib.Core.Path.{◌≡◌, refl, sym, ap, ◌∙◌}
 use Prim.Native.Nat.{ℕ, ◌^◌, ◌≤◌, ◌<◌}
 use native.Mathlib.Omega.{arith}
 use lib.ListN.{length}
@@ -10,12 +10,15 @@ use Rattle.machine.specs.Machine.{trees}
 use Rattle.pool.specs.Meaning.{meaning}
 use Rattle.pool.specs.Shares.{unpromised_shares}
 use Rattle.pool.specs.Sound.{Sound}
-use Rattle.protocol.proofs.Accepted.{PlaceAccepted, RankAccepted, SelectAccepted, access-accepted, rank-accepted, select-accepted, length-accepted, code-is-listed}
+use Rattle.protocol.proofs.Accepted.{PlaceAccepted, RankAccepted, SelectAccepted, access-accepted, rank-accepted, select-accepted, length-accepted}
 use Rattle.protocol.specs.Commands.{access_code, rank_code, select_code, length_code, unpromised_code, rows}
+use Rattle.protocol.specs.Numbers.{code_of}
 use Rattle.protocol.specs.Respond.{accepted, value_to}
 use Rattle.protocol.specs.State.{Part, alphabet_of, marks_of, part_of, unpromised}
 use Rattle.protocol.specs.declared.Answer.{Answer}
 use Rattle.protocol.specs.declared.Command.{Command}
+use Rattle.protocol.specs.declared.numbers.Operation.{Operation}
+use Rattle.protocol.specs.declared.numbers.Operation.TheVariants.{Open, Close, Insert, Delete, Access, Rank, Select, Length, Unpromised}
 use Rattle.pool.proofs.Meaning.{unpromised-meaning}
 use Rattle.tree_query.specs.Answers.{FoundOf}
 use Rattle.tree_query.specs.Records.{OfOpenName, tree_by}
@@ -25,7 +28,6 @@ use Rattle.sequence.proofs.Selects.{select-le-length}
 use Rattle.sequence.specs.Definition1.{count, rank, select}
 use Rattle.shape.proofs.Height.{depth-height}
 use Rattle.shape.specs.Trees.{Tree, marks_t}
-use Rattle.frame_status.proofs.Codes.{listed-within}
 use Rattle.frame_status.proofs.Statuses.{unpromised-passes}
 use Rattle.frame_status.specs.Statuses.{status_in, WellFormed}
 use Rattle.frame_queries.specs.Accepted.{Accepted, answer_of}
@@ -124,31 +126,33 @@ module _ (p : List ℕ) (c : Command) (found : Record) (a : Accepted p c found) 
         (open-answer p c found a select-open select_code is)
 
 -- Length, the last code that names a name.
-module _ (p : List ℕ) (c : Command) (found : Record) (a : Accepted p c found) where
-  last_code : access_code ≤ c.code → (c.code ≡ unpromised_code → ⊥) → (c.code ≡ access_code → ⊥) → (c.code ≡ rank_code → ⊥) → (c.code ≡ select_code → ⊥)
-      → c.code ≡ length_code
-  last_code late named no_access no-rank no-select =
-      omega (
-        arith,
-        (listed-within c.code (code-is-listed trees (unpromised (meaning p)) (part_of (meaning p) c.name) c a.status)).1,
-      )
-
+module _ (p : List ℕ) (c : Command) (found : Record) (accept : Accepted p c found) where
   length-is : c.code ≡ length_code → (answer : Answer) → answer ≡ value_to c found.length → answer ≡ answer_of p c
   unfolding rows
   length-is is answer told =
       let named : ToOpen p c found =
-      accepted-open p c a.sound a.status (λ (e : c.code ≡ unpromised_code). omega arith)
-      (length-accepted trees (unpromised (meaning p)) (part_of (meaning p) c.name) c is a.status) found a.read in
+      accepted-open p c accept.sound accept.status (λ (e : c.code ≡ unpromised_code). omega arith)
+      (length-accepted trees (unpromised (meaning p)) (part_of (meaning p) c.name) c is accept.status) found accept.read in
       told
       ∙ ap (value_to c) named.long
       ∙ sym
-      (open-answer p c found a named length_code is)
+      (open-answer p c found accept named length_code is)
 
-  pub length-answers : access_code ≤ c.code → (c.code ≡ unpromised_code → ⊥) → (c.code ≡ access_code → ⊥) → (c.code ≡ rank_code → ⊥)
-      → (c.code ≡ select_code → ⊥)
-      → (answer : Answer) → answer ≡ value_to c found.length
+  pub length-answers : (op : Operation) → code_of op ≡ c.code → access_code ≤ c.code → (c.code ≡ unpromised_code → ⊥) → (op ≡ Access → ⊥)
+      → (op ≡ Rank → ⊥)
+      → (op ≡ Select → ⊥)
+      → (n : ℕ) → n ≡ found.length
+      → (answer : Answer) → answer ≡ value_to c n
       → answer ≡ answer_of p c
-  length-answers late named no_access no-rank no-select = length-is (last_code late named no_access no-rank no-select)
+  length-answers Open code late named a r s = absurd (omega (arith, late, code))
+  length-answers Close code late named a r s = absurd (omega (arith, late, code))
+  length-answers Insert code late named a r s = absurd (omega (arith, late, code))
+  length-answers Delete code late named a r s = absurd (omega (arith, late, code))
+  length-answers Access code late named a r s = absurd (a refl)
+  length-answers Rank code late named a r s = absurd (r refl)
+  length-answers Select code late named a r s = absurd (s refl)
+  length-answers Length code late named a r s = λ n n-is answer told. length-is (sym code) answer (told ∙ ap (value_to c) n-is)
+  length-answers Unpromised code late named a r s = absurd (named (sym code))
 
 -- Unpromised shares.
 module _ (p : List ℕ) (c : Command) (sound : Sound p) (formed : WellFormed c) (is : c.code ≡ unpromised_code) where

@@ -4,29 +4,27 @@
 ghost use Rattle.std.specs.Prelude.{◌≢◌, ◌≡◌, ◌≤◌};
 ghost use Rattle.pool.specs.Sound.{Sound};
 ghost use Rattle.protocol.specs.Commands.{access_code, rank_code, select_code, unpromised_code};
+ghost use Rattle.protocol.specs.Numbers.{code_of};
 ghost use Rattle.frame_status.specs.Statuses.{WellFormed};
 ghost use Rattle.frame_queries.specs.Accepted.{Accepted, answer_of};
 
 use frame_status::unpromised;
 use geometry::Record;
-use protocol::{Answer, Command};
+use protocol::{Answer, Command, Operation};
 use tree_query::{access, rank, select};
 
 // The answer to a query of a name, whose record was read.
-pub fn ask(pool: &[u8], c: Command, found: Record) -> Answer
-    requires { Accepted pool.now c found × (access_code ≤ c.code) × (c.code ≢ unpromised_code) }
+pub fn ask(pool: &[u8], c: Command, operation: Operation, found: Record) -> Answer
+    requires accepted { Accepted pool.now c found × (access_code ≤ c.code) × (c.code ≢ unpromised_code) }
+    requires operation { code_of operation ≡ c.code }
     ensures { result ≡ answer_of pool.now c }
 {
-    if c.code == Command::ACCESS {
-        return answer_access(pool, c, found);
+    match operation {
+        Operation::Access => answer_access(pool, c, found),
+        Operation::Rank => answer_rank(pool, c, found),
+        Operation::Select => answer_select(pool, c, found),
+        _ => Answer::with_value(c, u32::from(found.length)),
     }
-    if c.code == Command::RANK {
-        return answer_rank(pool, c, found);
-    }
-    if c.code == Command::SELECT {
-        return answer_select(pool, c, found);
-    }
-    Answer::with_value(c, found.length as u32)
 }
 
 fn answer_access(pool: &[u8], c: Command, found: Record) -> Answer

@@ -2,7 +2,7 @@
 use mathlib.Core.Bool.{Bool, true, false, cond, not, ◌&&◌, ◌||◌}
 use mathlib.Core.List.{List}
 use mathlib.Core.Logic.{◌⊎◌, ◌≢◌, ⊎_elim}
-use mathlib.Core.Path.{◌≡◌, sym, ap, ◌∙◌}
+use mathlib.Core.Path.{◌≡◌, refl, sym, ap, ◌∙◌}
 use Prim.Native.Nat.{ℕ, ◌+◌, ◌*◌, ◌≤◌, ◌<◌}
 use native.Mathlib.Omega.{arith}
 use borrow.Author.Tests.{eq-eqb, ne_eqb, le-leb, lt-leb, lt-ltb, le-ltb}
@@ -18,6 +18,9 @@ use Rattle.pool.specs.Sound.{OpenName}
 use Rattle.protocol.specs.Commands.{open_code, insert_code, delete_code, access_code, rank_code, select_code, unpromised_code}
 use Rattle.protocol.specs.State.{Part, closed, opened, part_of, unpromised}
 use Rattle.protocol.specs.declared.Command.{Command}
+use Rattle.protocol.specs.Numbers.{code_of}
+use Rattle.protocol.specs.declared.numbers.Operation.{Operation}
+use Rattle.protocol.specs.declared.numbers.Operation.TheVariants.{Open, Close, Insert, Delete, Access, Rank, Select, Length, Unpromised}
 use Rattle.sequence.specs.Definition1.{count}
 use Rattle.shape.specs.Trees.{Tree, marks_t}
 use Rattle.tree_query.proofs.Records.{open-by-kind, open-record, record-length}
@@ -25,7 +28,7 @@ use Rattle.tree_query.specs.Records.{OfOpenName, tree_by}
 use Rattle.frame_status.specs.Statuses.{status_in, WellFormed, Naming, Asking, StatusBy}
 use Rattle.pool.proofs.Meaning.{unpromised-meaning}
 use Rattle.frame_status.specs.Statuses.{status_in, WellFormed, Naming, Asking}
-use Rattle.frame_status.proofs.Codes.{listed-within}
+use Rattle.frame_status.proofs.Codes.{code-of-open}
 use Rattle.frame_status.proofs.Forms.{later_status, later-tests, name_below}
 use Rattle.frame_status.proofs.Parts.{closed-by-kind, closed-part, opened-part}
 use Rattle.frame_status.proofs.Tests.{
@@ -38,7 +41,8 @@ use Rattle.frame_status.proofs.Tests.{
   access-tests,
   rank-tests,
   select-tests,
-  no-tests,
+  close-tests,
+  length-tests,
 }
 
 -- the later tests of a well-formed command, with its name's part at hand
@@ -46,13 +50,6 @@ by_part : (p : List ℕ) (c : Command) (part : Part Tree) → WellFormed c → p
     → status_in p c ≡ later_status (unpromised (meaning p)) part c
 by_part p c part formed is =
     later-tests _ _ c formed ∙ ap (λ (x : Part Tree). later_status (unpromised (meaning p)) x c) is
-
--- a place of a range
-pub place-before : (number first last : ℕ) → number < first → false ≡ (leb first number && leb number last)
-place-before number first last low = rw (lt-leb first number low)
-
-pub place-up-to : (number first last : ℕ) → first ≤ number → leb number last ≡ (leb first number && leb number last)
-place-up-to number first last high = rw (le-leb first number high)
 
 module _ (p : List ℕ) (c : Command) where
   pub unpromised-passes : WellFormed c → c.code ≡ unpromised_code → 0 ≡ status_in p c
@@ -85,49 +82,52 @@ module _ (p : List ℕ) (c : Command) (found : Record) (n : Naming p c found) wh
           (cond (eqb c.number 0) 7 (cond (ltb (unpromised_shares p) c.number) 12 0))
       opening-closed = naming-closed-part is ∙ opening-tests _ c code ∙ rw (unpromised-meaning p n.sound)
 
-      pub opening-small : c.symbol < least_alphabet → 6 ≡ status_in p c
-      opening-small small = sym (opening-closed ∙ rw (lt-leb least_alphabet c.symbol small))
+      module _ (size : Bool) (says : size ≡ (leb least_alphabet c.symbol && leb c.symbol most_alphabet)) where
+        opening-sized : status_in p c ≡ cond (not size) 6 (cond (eqb c.number 0) 7 (cond (ltb (unpromised_shares p) c.number) 12 0))
+        opening-sized = opening-closed ∙ rw says
 
-      pub opening-large : least_alphabet ≤ c.symbol → most_alphabet < c.symbol → 6 ≡ status_in p c
-      opening-large least large =
-          sym (opening-closed ∙ rw (le-leb least_alphabet c.symbol least, lt-leb c.symbol most_alphabet large))
+        pub opening-alphabet : size ≡ false → 6 ≡ status_in p c
+        opening-alphabet fails = sym (opening-sized ∙ rw fails)
 
-      module _ (least : least_alphabet ≤ c.symbol) (most : c.symbol ≤ most_alphabet) where
-        pub opening-no-shares : c.number ≡ 0 → 7 ≡ status_in p c
-        opening-no-shares none =
-            sym
-            (opening-closed
-            ∙ rw (le-leb least_alphabet c.symbol least, le-leb c.symbol most_alphabet most, eq-eqb c.number 0 none))
+        module _ (holds : size ≡ true) where
+          pub opening-no-shares : c.number ≡ 0 → 7 ≡ status_in p c
+          opening-no-shares none = sym (opening-sized ∙ rw (holds, eq-eqb c.number 0 none))
 
-        module _ (free : ℕ) (some : c.number ≡ 0 → ⊥) (told : free ≡ unpromised_shares p) where
-          opening-shares : status_in p c ≡ cond (ltb free c.number) 12 0
-          opening-shares =
-              opening-closed
-              ∙ rw (le-leb least_alphabet c.symbol least, le-leb c.symbol most_alphabet most, ne_eqb c.number 0 some, told)
+          module _ (free : ℕ) (some : c.number ≡ 0 → ⊥) (told : free ≡ unpromised_shares p) where
+            opening-shares : status_in p c ≡ cond (ltb free c.number) 12 0
+            opening-shares = opening-sized ∙ rw (holds, ne_eqb c.number 0 some, told)
 
-          pub opening-exceeds : free < c.number → 12 ≡ status_in p c
-          opening-exceeds more = sym (opening-shares ∙ rw (lt-ltb free c.number more))
+            pub opening-exceeds : free < c.number → 12 ≡ status_in p c
+            opening-exceeds more = sym (opening-shares ∙ rw (lt-ltb free c.number more))
 
-          pub opening-passes : c.number ≤ free → 0 ≡ status_in p c
-          opening-passes enough = sym (opening-shares ∙ rw (le-ltb free c.number enough))
+            pub opening-passes : c.number ≤ free → 0 ≡ status_in p c
+            opening-passes enough = sym (opening-shares ∙ rw (le-ltb free c.number enough))
 
   -- a command to a name that must be open
   module _ (other : c.code ≢ open_code) where
-    pub naming-closed : found.kind ≡ kind_closed → 5 ≡ status_in p c
-    naming-closed is =
-        let within = listed-within c.code n.formed.known in
-        let first : c.code ≡ open_code → ⊥ = other in
-        let last : c.code ≡ unpromised_code → ⊥ = n.named in
-        sym (naming-closed-part is ∙ not-open _ c (omega (arith, within.0, first)) (omega (arith, within.1, last)))
+    pub naming-closed : (op : Operation) → code_of op ≡ c.code → found.kind ≡ kind_closed → 5 ≡ status_in p c
+    naming-closed op code is =
+        let within = code-of-open op c.code code other n.named in
+        sym (naming-closed-part is ∙ not-open _ c within.0 within.1)
 
-    pub naming-passes : (found.kind ≡ kind_closed → ⊥) → (c.code ≡ insert_code → ⊥) → (c.code ≡ rank_code → ⊥) → (c.code ≡ select_code → ⊥)
-        → (c.code ≡ delete_code → ⊥)
-        → (c.code ≡ access_code → ⊥)
-        → 0 ≡ status_in p c
-    naming-passes is i r s d a =
-        sym
-        (by_part p c _ n.formed (opened-part p c.name n.sound naming-low (naming-open is))
-        ∙ no-tests _ _ _ _ c n.formed.known other n.named i r s d a)
+    -- where the name is open, a closing and a length have no test
+    module _ (is : found.kind ≡ kind_closed → ⊥) where
+      untested : ((free a q : ℕ) (t : Tree) → later_status free (opened a q t) c ≡ 0) → 0 ≡ status_in p c
+      untested none = sym (by_part p c _ n.formed (opened-part p c.name n.sound naming-low (naming-open is)) ∙ none _ _ _ _)
+
+      pub naming-passes : (op : Operation) → code_of op ≡ c.code → (op ≡ Insert → ⊥) → (op ≡ Delete → ⊥) → (op ≡ Access → ⊥)
+          → (op ≡ Rank → ⊥)
+          → (op ≡ Select → ⊥)
+          → 0 ≡ status_in p c
+      naming-passes Open code i d a r s = absurd (other (sym code))
+      naming-passes Close code i d a r s = untested (λ free b q t. close-tests free b q t c (sym code))
+      naming-passes Insert code i d a r s = absurd (i refl)
+      naming-passes Delete code i d a r s = absurd (d refl)
+      naming-passes Access code i d a r s = absurd (a refl)
+      naming-passes Rank code i d a r s = absurd (r refl)
+      naming-passes Select code i d a r s = absurd (s refl)
+      naming-passes Length code i d a r s = untested (λ free b q t. length-tests free b q t c (sym code))
+      naming-passes Unpromised code i d a r s = absurd (n.named (sym code))
 
   module _ (is : found.kind ≡ kind_closed → ⊥) where
     pub naming-asks : Asking p c found
@@ -161,31 +161,38 @@ module _ (p : List ℕ) (c : Command) (found : Record) (k : Asking p c found) wh
     pub insert-symbol : found.alphabet ≤ c.symbol → 8 ≡ status_in p c
     insert-symbol outside = sym (insert-is ∙ rw (le-leb found.alphabet c.symbol outside))
 
-    module _ (inside : c.symbol < found.alphabet) where
-      module _ (yes : Bool) (says : yes ≡ (leb 1 c.number && leb c.number (found.length + 1))) where
-        insert-placed : status_in p c ≡ cond (not yes) 9 (cond (eqb found.length (marks_per_share * found.q)) 11 0)
-        insert-placed = insert-is ∙ rw (lt-leb found.alphabet c.symbol inside, says)
+    module _ (inside : c.symbol < found.alphabet) (n : ℕ) (n-is : n ≡ found.length) (yes : Bool)
+        (says : yes ≡ (leb 1 c.number && leb c.number (n + 1))) where
+      insert-placed : status_in p c ≡ cond (not yes) 9 (cond (eqb found.length (marks_per_share * found.q)) 11 0)
+      insert-placed = insert-is ∙ rw (lt-leb found.alphabet c.symbol inside, says, n-is)
 
-        pub insert-outside : yes ≡ false → 9 ≡ status_in p c
-        insert-outside fails = sym (insert-placed ∙ rw fails)
+      pub insert-outside : yes ≡ false → 9 ≡ status_in p c
+      insert-outside fails = sym (insert-placed ∙ rw fails)
 
-        pub insert-full : yes ≡ true → found.length ≡ marks_per_share * found.q → 11 ≡ status_in p c
-        insert-full holds full = sym (insert-placed ∙ rw (holds, eq-eqb found.length (marks_per_share * found.q) full))
+      module _ (holds : yes ≡ true) (m q : ℕ) where
+        insert-roomed : m ≡ found.length → q ≡ found.q → status_in p c ≡ cond (eqb m (marks_per_share * q)) 11 0
+        insert-roomed m-is q-is = insert-placed ∙ rw (holds, m-is, q-is)
 
-        pub insert-passes : yes ≡ true → (found.length ≡ marks_per_share * found.q → ⊥) → 0 ≡ status_in p c
-        insert-passes holds room = sym (insert-placed ∙ rw (holds, ne_eqb found.length (marks_per_share * found.q) room))
+        pub insert-full : m ≡ marks_per_share * q → m ≡ found.length → q ≡ found.q → 11 ≡ status_in p c
+        insert-full full m-is q-is = sym (insert-roomed m-is q-is ∙ rw (eq-eqb m (marks_per_share * q) full))
+
+        pub insert-passes : (m ≡ marks_per_share * q → ⊥) → m ≡ found.length → q ≡ found.q → 0 ≡ status_in p c
+        insert-passes room m-is q-is = sym (insert-roomed m-is q-is ∙ rw (ne_eqb m (marks_per_share * q) room))
 
   -- a delete and an access
   module _ (code : (c.code ≡ delete_code) ⊎ (c.code ≡ access_code)) where
     place_is : status_in p c ≡ cond (not (leb 1 c.number && leb c.number found.length)) 9 0
     place_is = asked ∙ ⊎_elim (λ d. delete-tests _ _ _ _ c d) (λ a. access-tests _ _ _ _ c a) code ∙ rw long
 
-    module _ (yes : Bool) (says : yes ≡ (leb 1 c.number && leb c.number found.length)) where
+    module _ (n : ℕ) (n-is : n ≡ found.length) (yes : Bool) (says : yes ≡ (leb 1 c.number && leb c.number n)) where
+      placed : status_in p c ≡ cond (not yes) 9 0
+      placed = place_is ∙ rw (says, n-is)
+
       pub place-outside : yes ≡ false → 9 ≡ status_in p c
-      place-outside fails = sym (place_is ∙ rw (sym says, fails))
+      place-outside fails = sym (placed ∙ rw fails)
 
       pub place-passes : yes ≡ true → 0 ≡ status_in p c
-      place-passes holds = sym (place_is ∙ rw (sym says, holds))
+      place-passes holds = sym (placed ∙ rw holds)
 
   -- a rank
   module _ (code : c.code ≡ rank_code) where
@@ -195,12 +202,15 @@ module _ (p : List ℕ) (c : Command) (found : Record) (k : Asking p c found) wh
     pub rank-symbol : found.alphabet ≤ c.symbol → 8 ≡ status_in p c
     rank-symbol outside = sym (rank_is ∙ rw (le-leb found.alphabet c.symbol outside))
 
-    module _ (inside : c.symbol < found.alphabet) (yes : Bool) (says : yes ≡ (leb 0 c.number && leb c.number found.length)) where
-      pub rank-outside : yes ≡ false → 9 ≡ status_in p c
-      rank-outside fails = sym (rank_is ∙ rw (lt-leb found.alphabet c.symbol inside, sym says, fails))
+    module _ (inside : c.symbol < found.alphabet) (n : ℕ) (n-is : n ≡ found.length) where
+      rank-placed : status_in p c ≡ cond (not (leb c.number n)) 9 0
+      rank-placed = rank_is ∙ rw (lt-leb found.alphabet c.symbol inside, le-leb 0 c.number (omega arith), n-is)
 
-      pub rank-passes : yes ≡ true → 0 ≡ status_in p c
-      rank-passes holds = sym (rank_is ∙ rw (lt-leb found.alphabet c.symbol inside, sym says, holds))
+      pub rank-outside : n < c.number → 9 ≡ status_in p c
+      rank-outside past = sym (rank-placed ∙ rw (lt-leb c.number n past))
+
+      pub rank-passes : c.number ≤ n → 0 ≡ status_in p c
+      rank-passes within = sym (rank-placed ∙ rw (le-leb c.number n within))
 
   -- a select
   module _ (code : c.code ≡ select_code) where

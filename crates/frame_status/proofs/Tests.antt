@@ -1,15 +1,12 @@
 -- The statuses from 4 on, code by code: what is tested of a well-formed command, in the order of the table.
-use mathlib.Core.Bool.{true, cond, not, ◌&&◌, ◌||◌}
-use mathlib.Core.Logic.{◌≢◌}
-use mathlib.Core.Path.{◌≡◌, refl}
+use mathlib.Core.Bool.{cond, not, ◌&&◌, ◌||◌}
+use mathlib.Core.Path.{◌≡◌}
 use Prim.Native.Nat.{ℕ, ◌+◌, ◌*◌, ◌≤◌}
 use native.Mathlib.Omega.{arith}
 use borrow.Author.Tests.{ne_eqb, le-leb}
 use lib.Dec.{eqb, leb, ltb}
 use lib.ListN.{length}
 use Rattle.geometry.specs.Limits.{least_alphabet, most_alphabet, marks_per_share}
-use Rattle.machine.specs.Machine.{trees}
-use Rattle.protocol.proofs.Commands.{with_code}
 use Rattle.protocol.specs.Commands.{
   open_code,
   close_code,
@@ -24,12 +21,11 @@ use Rattle.protocol.specs.Commands.{
 }
 use Rattle.protocol.specs.Commands.{open_code, close_code, insert_code, delete_code, access_code, rank_code, select_code, length_code, unpromised_code}
 use Rattle.protocol.specs.Commands.{rows}
-use Rattle.protocol.specs.Refusals.{refusals, listed}
+use Rattle.protocol.specs.Refusals.{refusals}
 use Rattle.protocol.specs.State.{Part, closed, opened}
 use Rattle.protocol.specs.declared.Command.{Command}
 use Rattle.sequence.specs.Definition1.{count}
 use Rattle.shape.specs.Trees.{Tree, marks_t}
-use Rattle.frame_status.proofs.Codes.{by_code}
 use Rattle.frame_status.proofs.Forms.{later_status}
 
 -- of the unpromised shares nothing is tested
@@ -82,24 +78,10 @@ module _ (free a q : ℕ) (t : Tree) (c : Command) where
   unfolding refusals rows
   select-tests is = rw is
 
-  -- a closing and a length
-  pub no-tests : listed trees c.code ≡ true → c.code ≢ open_code → c.code ≢ unpromised_code → c.code ≢ insert_code → c.code ≢ rank_code
-      → c.code ≢ select_code
-      → c.code ≢ delete_code
-      → c.code ≢ access_code
-      → later_status free (opened a q t) c ≡ 0
+  pub close-tests : c.code ≡ close_code → later_status free (opened a q t) c ≡ 0
   unfolding refusals
-  no-tests known =
-      by_code
-      (λ x. x ≢ open_code → x ≢ unpromised_code → x ≢ insert_code → x ≢ rank_code → x ≢ select_code → x ≢ delete_code → x ≢ access_code
-      → later_status free (opened a q t) (with_code x c) ≡ 0) (record {
-        of_open = λ no u i r s d g. absurd (no refl);
-        of_close = λ no u i r s d g. refl;
-        of_insert = λ no u i r s d g. absurd (i refl);
-        of_delete = λ no u i r s d g. absurd (d refl);
-        of_access = λ no u i r s d g. absurd (g refl);
-        of_rank = λ no u i r s d g. absurd (r refl);
-        of_select = λ no u i r s d g. absurd (s refl);
-        of_length = λ no u i r s d g. refl;
-        of_unpromised = λ no u i r s d g. absurd (u refl);
-      }) c.code known
+  close-tests is = rw is
+
+  pub length-tests : c.code ≡ length_code → later_status free (opened a q t) c ≡ 0
+  unfolding refusals
+  length-tests is = rw is

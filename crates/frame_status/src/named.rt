@@ -1,103 +1,98 @@
 // The status of a command to a name that must be open.
 ghost use Rattle.std.specs.Prelude.{◌&&◌, ◌⊎◌, ◌≢◌, ◌≡◌, leb};
 ghost use Rattle.protocol.specs.Commands.{open_code, insert_code, delete_code, access_code, rank_code, select_code};
-ghost use Rattle.frame_status.specs.Statuses.{status_in, Naming, Asking, StatusBy};
+ghost use Rattle.protocol.specs.Numbers.{code_of};
+ghost use Rattle.frame_status.specs.Statuses.{status_in, status_told, Naming, Asking, StatusBy};
 
 use geometry::Record;
-use protocol::{Answer, Command};
+use protocol::{Command, Operation, Reason};
 use tree_query::count;
 
-// The status of a command to a name that must be open.
-pub fn named_status(pool: &[u8], c: Command, found: Record) -> u8
-    requires { Naming pool.now c found × (c.code ≢ open_code) }
-    ensures { result ≡ status_in pool.now c }
+// The tests of a command to a name that must be open.
+pub fn named_status(
+    pool: &[u8],
+    c: Command,
+    operation: Operation,
+    found: Record,
+) -> Result<(), Reason>
+    requires naming { Naming pool.now c found × (c.code ≢ open_code) }
+    requires operation { code_of operation ≡ c.code }
+    ensures { status_told result ≡ status_in pool.now c }
 {
     if found.kind == Record::KIND_CLOSED {
-        return Answer::NOT_OPEN;
+        return Err(Reason::NotOpen);
     }
-    if c.code == Command::INSERT {
-        return insertion_status(c, found);
+    match operation {
+        Operation::Insert => insertion_status(c, found),
+        Operation::Delete | Operation::Access => place_status(c, found),
+        Operation::Rank => rank_status(c, found),
+        Operation::Select => selection_status(pool, c, found),
+        _ => Ok(()),
     }
-    if c.code == Command::RANK {
-        return rank_status(c, found);
-    }
-    if c.code == Command::SELECT {
-        return selection_status(pool, c, found);
-    }
-    if c.code == Command::DELETE {
-        return place_status(c, found);
-    }
-    if c.code == Command::ACCESS {
-        return place_status(c, found);
-    }
-    0
 }
 
 // Whether a number is a place of a range.
 fn is_place(number: u32, first: u32, last: u32) -> bool
     ensures { result ≡ (leb first number && leb number last) }
 {
-    if number < first {
-        return false;
-    }
-    number <= last
+    (first..=last).contains(&number)
 }
 
-// The status of an insert into an open name.
-fn insertion_status(c: Command, found: Record) -> u8
+// The tests of an insert into an open name.
+fn insertion_status(c: Command, found: Record) -> Result<(), Reason>
     requires { c.code ≡ insert_code }
-    ensures { StatusBy c found result }
+    ensures { StatusBy c found (status_told result) }
 {
     if c.symbol >= found.alphabet {
-        return Answer::SYMBOL_OUTSIDE;
+        return Err(Reason::SymbolOutside);
     }
-    if !is_place(c.number, 1, found.length as u32 + 1) {
-        return Answer::PLACE_OUTSIDE;
+    if !is_place(c.number, 1, u32::from(found.length) + 1) {
+        return Err(Reason::PlaceOutside);
     }
-    if found.length as usize == Record::MARKS_PER_SHARE * (found.q as usize) {
-        return Answer::FULL;
+    if usize::from(found.length) == Record::MARKS_PER_SHARE * usize::from(found.q) {
+        return Err(Reason::Full);
     }
-    0
+    Ok(())
 }
 
-// The status of a delete from an open name, or of an access.
-fn place_status(c: Command, found: Record) -> u8
+// The tests of a delete from an open name, or of an access.
+fn place_status(c: Command, found: Record) -> Result<(), Reason>
     requires { (c.code ≡ delete_code) ⊎ (c.code ≡ access_code) }
-    ensures { StatusBy c found result }
+    ensures { StatusBy c found (status_told result) }
 {
-    if !is_place(c.number, 1, found.length as u32) {
-        return Answer::PLACE_OUTSIDE;
+    if !is_place(c.number, 1, u32::from(found.length)) {
+        return Err(Reason::PlaceOutside);
     }
-    0
+    Ok(())
 }
 
-// The status of a rank in an open name.
-fn rank_status(c: Command, found: Record) -> u8
+// The tests of a rank in an open name.
+fn rank_status(c: Command, found: Record) -> Result<(), Reason>
     requires { c.code ≡ rank_code }
-    ensures { StatusBy c found result }
+    ensures { StatusBy c found (status_told result) }
 {
     if c.symbol >= found.alphabet {
-        return Answer::SYMBOL_OUTSIDE;
+        return Err(Reason::SymbolOutside);
     }
-    if !is_place(c.number, 0, found.length as u32) {
-        return Answer::PLACE_OUTSIDE;
+    if c.number > u32::from(found.length) {
+        return Err(Reason::PlaceOutside);
     }
-    0
+    Ok(())
 }
 
-// The status of a select in an open name.
-fn selection_status(pool: &[u8], c: Command, found: Record) -> u8
+// The tests of a select in an open name.
+fn selection_status(pool: &[u8], c: Command, found: Record) -> Result<(), Reason>
     requires { Asking pool.now c found × (c.code ≡ select_code) }
-    ensures { result ≡ status_in pool.now c }
+    ensures { status_told result ≡ status_in pool.now c }
 {
     if c.symbol >= found.alphabet {
-        return Answer::SYMBOL_OUTSIDE;
+        return Err(Reason::SymbolOutside);
     }
     if c.number == 0 {
-        return Answer::ORDINAL_OUTSIDE;
+        return Err(Reason::OrdinalOutside);
     }
     if c.number as usize > count(pool, found, c.symbol) {
-        return Answer::ORDINAL_OUTSIDE;
+        return Err(Reason::OrdinalOutside);
     }
-    0
+    Ok(())
 }

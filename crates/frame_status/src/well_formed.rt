@@ -1,103 +1,68 @@
 // The statuses 1 to 3: whether a command is well formed, whatever the pool holds.
-ghost use Rattle.std.specs.Prelude.{true, ◌||◌, ◌≡◌, eqb};
+ghost use Rattle.std.specs.Prelude.{◌≡◌};
 ghost use Rattle.machine.specs.Machine.{trees};
 ghost use Rattle.protocol.specs.Commands.{rows, row_of};
-ghost use Rattle.protocol.specs.Refusals.{listed, is_name_allowed, is_unused_zero};
+ghost use Rattle.protocol.specs.Numbers.{code_of};
+ghost use Rattle.protocol.specs.Refusals.{is_name_allowed, is_unused_zero};
 ghost use Rattle.frame_status.specs.Statuses.{FormStatus};
 
 use geometry::Record;
-use protocol::{Answer, Command};
+use protocol::{Command, Operation, Reason};
 
 // The name byte of the command that names none.
 const NO_NAME: u8 = 255;
 
-// The first of the statuses 1 to 3 that applies to a command, and 0 where none does.
-pub fn form_status(c: Command) -> u8
+// The operation of a well-formed command, or the first of the reasons 1 to 3 to refuse it.
+pub fn form_status(c: Command) -> Result<Operation, Reason>
     ensures { FormStatus c result }
 {
-    if !is_known(c.code) {
-        return Answer::UNKNOWN_CODE;
+    let operation = Operation::try_from(c.code)?;
+    if !is_name_allowed(c, operation) {
+        return Err(Reason::NameNotAllowed);
     }
-    if !is_name_allowed(c) {
-        return Answer::NAME_NOT_ALLOWED;
+    if !is_unused_zero(c, operation) {
+        return Err(Reason::UnusedNotZero);
     }
-    if !is_unused_zero(c) {
-        return Answer::UNUSED_NOT_ZERO;
-    }
-    0
+    Ok(operation)
 }
 
-// Whether the code is in the table of commands.
-fn is_known(code: u8) -> bool
-    ensures { result ≡ listed trees code }
-{
-    if code < Command::OPEN {
-        return false;
-    }
-    code <= Command::UNPROMISED
-}
-
-// Whether the code takes the name byte.
-fn is_name_allowed(c: Command) -> bool
+// Whether the operation takes the name byte.
+fn is_name_allowed(c: Command, operation: Operation) -> bool
+    requires { code_of operation ≡ c.code }
     ensures { result ≡ is_name_allowed c }
 {
-    if c.code == Command::UNPROMISED {
-        return c.name == NO_NAME;
+    match operation {
+        Operation::Unpromised => c.name == NO_NAME,
+        _ => usize::from(c.name) < Record::NAMES,
     }
-    (c.name as usize) < Record::NAMES
 }
 
-// Whether the fourth byte and the fields that the command doesn't use are zero.
-fn is_unused_zero(c: Command) -> bool
-    requires { listed trees c.code ≡ true }
+// Whether the fourth byte and the fields that the operation doesn't use are zero.
+fn is_unused_zero(c: Command, operation: Operation) -> bool
+    requires { code_of operation ≡ c.code }
     ensures { result ≡ is_unused_zero trees c }
 {
-    if c.fourth != 0 {
-        return false;
-    }
-    if !used_or_zero(uses_symbol(c.code), c.symbol as u32) {
-        return false;
-    }
-    used_or_zero(uses_number(c.code), c.number)
+    c.fourth == 0
+        && (uses_symbol(operation) || c.symbol == 0)
+        && (uses_number(operation) || c.number == 0)
 }
 
-// Whether a field may hold this number.
-fn used_or_zero(uses: bool, number: u32) -> bool
-    ensures { result ≡ (uses || eqb number 0) }
+// Whether the operation uses its symbol.
+fn uses_symbol(operation: Operation) -> bool
+    ensures { result ≡ (row_of (code_of operation) (rows trees)).uses_symbol }
 {
-    if uses {
-        return true;
-    }
-    number == 0
+    matches!(
+        operation,
+        Operation::Open | Operation::Insert | Operation::Rank | Operation::Select
+    )
 }
 
-// Whether the command uses its symbol.
-fn uses_symbol(code: u8) -> bool
-    requires { listed trees code ≡ true }
-    ensures { result ≡ (row_of code (rows trees)).uses_symbol }
+// Whether the operation uses its number.
+fn uses_number(operation: Operation) -> bool
+    ensures { result ≡ (row_of (code_of operation) (rows trees)).uses_number }
 {
-    if code == Command::OPEN {
-        return true;
-    }
-    if code == Command::INSERT {
-        return true;
-    }
-    if code == Command::RANK {
-        return true;
-    }
-    code == Command::SELECT
-}
-
-// Whether the command uses its number.
-fn uses_number(code: u8) -> bool
-    requires { listed trees code ≡ true }
-    ensures { result ≡ (row_of code (rows trees)).uses_number }
-{
-    if code == Command::OPEN {
-        return true;
-    }
-    if code < Command::INSERT {
-        return false;
-    }
-    code <= Command::SELECT
+    !matches!(
+        operation,
+        Operation::Close | Operation::Length | Operation::Unpromised
+    )
 }

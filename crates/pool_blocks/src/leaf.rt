@@ -35,15 +35,11 @@ pub fn count_marks(pool: &[u8], b: usize, c: u8, i: usize) -> usize
     let behind = Record::BLOCK_SIZE as u8 - i as u8;
     let mut left = Record::BLOCK_SIZE as u8;
     let mut met: u8 = 0;
-    let mut k = 0;
-    while k < Record::BLOCK_SIZE {
-        if pool[at + k] == c {
-            if left > behind {
-                met += 1;
-            }
+    for mark in &pool[at..at + Record::BLOCK_SIZE] {
+        if *mark == c && left > behind {
+            met += 1;
         }
         left -= 1;
-        k += 1;
     }
     met as usize
 }
@@ -54,18 +50,19 @@ pub fn find_mark(pool: &[u8], b: usize, c: u8, j: usize) -> usize
     ensures { result ≡ select c (leaf_marks pool.now b) j }
 {
     let at = block_at(b);
-    let end = at + entry_count(pool, b);
-    let mut start = at;
+    let marks = &pool[at..at + entry_count(pool, b)];
+    let (strides, _) = marks.as_chunks::<STRIDE>();
+    let mut passed = 0;
     let mut left = j;
-    while start + STRIDE <= end {
-        let met = count_in(pool, start, start + STRIDE, c);
+    for stride in strides {
+        let met = count_in(stride, 0, STRIDE, c);
         if met >= left {
             break;
         }
         left -= met;
-        start += STRIDE;
+        passed += STRIDE;
     }
-    start - at + find(&pool[start..end], c, left)
+    passed + find(&marks[passed..], c, left)
 }
 
 // Puts c in at place i.

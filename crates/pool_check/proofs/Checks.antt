@@ -1,21 +1,20 @@
 -- The whole check: refused by the length, the header, the shares promised, or the names, which are walked with a clear map.
-use mathlib.Core.Bool.{Bool, true, false}
+use mathlib.Core.Bool.{Bool}
 use mathlib.Core.List.{List}
 use mathlib.Core.Path.{◌≡◌, refl, ◌∙◌}
 use Prim.Native.Nat.{ℕ, zero, suc, ◌+◌, ◌≤◌, ◌<◌}
 use native.Mathlib.Omega.{arith}
 use lib.ListN.{length, get_or, replicate}
-use Rattle.geometry.specs.Limits.{directory_size, longest_pool, names, most_shares}
+use Rattle.geometry.specs.Limits.{names, most_shares}
 use Rattle.lists.proofs.Items.{all_map}
 use Rattle.lists.specs.Items.{AllBelow}
 use Rattle.pool.specs.Bytes.{shares}
 use Rattle.pool.specs.Names.{blocks_of, held_blocks}
 use Rattle.pool.specs.Shares.{promised_shares}
-use Rattle.pool.specs.Sound.{LengthAllowed, SoundHeader, Distinct, Sound}
+use Rattle.pool.specs.Sound.{LengthAllowed, SoundHeader, Distinct}
 use Rattle.pool_check.specs.Walks.{New, map_to, WalkedNames}
 use Rattle.pool_check.specs.Parts.{SoundName, Checked}
-use Rattle.pool_check.specs.Says.{Says}
-use Rattle.pool_check.proofs.Deciding.{never, say-no, say-same, denied}
+use Rattle.pool_check.proofs.Deciding.{say-same}
 use Rattle.pool_check.proofs.Holders.{map-length, name-inside, held-apart, apart-new, map_of}
 
 -- a map of zeros is clear
@@ -24,32 +23,13 @@ zeros-clear zero b = refl
 zeros-clear (suc n) zero = refl
 zeros-clear (suc n) (suc b) = zeros-clear n b
 
-refused : (p after : List ℕ) → (Sound p → ⊥) → Checked p false after
-refused p after not = record { says = say-no not; long = never; holders = never }
-
 module _ (p after : List ℕ) where
-  module _ (r : Bool) (allowed : Says r (LengthAllowed (length p))) where
-    pub length-refused : r ≡ false → Checked p false after
-    length-refused failed = refused p after (λ s. denied allowed failed s.allowed)
-
-    pub long-enough : r ≡ true → directory_size ≤ length p
-    long-enough passed = omega (arith, allowed.sound passed)
-
-    pub short-enough : r ≡ true → length p ≤ longest_pool
-    short-enough passed = omega (arith, allowed.sound passed)
-
-  pub header_refused : (r : Bool) → Says r (SoundHeader p) → r ≡ false → Checked p false after
-  header_refused r header failed = refused p after (λ s. denied header failed s.header)
-
-  pub over-promised : (sum all : ℕ) → sum ≡ promised_shares p → all ≡ shares p → all < sum → Checked p false after
-  over-promised sum all so has over = refused p after (λ s. omega (arith, s.promised))
-
   -- the names, walked with a clear map
   module _ (fresh : List ℕ) (long : length fresh ≡ most_shares) (clear : (b : ℕ) → get_or fresh b 0 ≡ 0)
-      (a h r : Bool) (sum all : ℕ) (allowed : Says a (LengthAllowed (length p))) (fits : a ≡ true) (header : Says h (SoundHeader p)) (headed : h ≡ true)
-      (so : sum ≡ promised_shares p) (has : all ≡ shares p) (promised : sum ≤ all) (walked : WalkedNames r (SoundName p) p names fresh after) where
+      (r : Bool) (allowed : LengthAllowed (length p)) (header : SoundHeader p) (promised : promised_shares p ≤ shares p)
+      (walked : WalkedNames r (SoundName p) p names fresh after) where
     short : shares p ≤ length fresh
-    short = omega (arith, allowed.sound fits)
+    short = omega (arith, allowed)
 
     abbrev Each : Type 0
     Each = (name : ℕ) → name < names → SoundName p name × New (name + 1) (map_to p fresh name) (blocks_of p name)
@@ -65,11 +45,11 @@ module _ (p after : List ℕ) where
     names-checked = record {
       says = say-same
           (λ each. record {
-            allowed = allowed.sound fits;
-            header = header.sound headed;
+            allowed = allowed;
+            header = header;
             each = λ name low. (each name low).0;
             apart = apart each;
-            promised = omega arith;
+            promised = promised;
           })
           (λ s name low. (s.each name low, apart-new p fresh clear s.apart name low)) walked.says;
       long = λ e. rw (walked.met e) (map-length p fresh clear names ∙ long);

@@ -44,9 +44,6 @@ module _ (f : ℕ → ℕ) (n c left : ℕ) (rest : left + sum_below c f ≡ sum
     pub next-left : c + 1 ≤ n
     next-left = omega (arith, some_left)
 
-    pub fewer-left : n - (c + 1) < n - c
-    fewer-left = omega (arith, some_left)
-
     next-sum : sum_below (c + 1) f ≡ sum_below c f + f c
     unfolding sum_below
     next-sum = rw add-one refl
@@ -64,12 +61,6 @@ module _ (f : ℕ → ℕ) (n c left : ℕ) (rest : left + sum_below c f ≡ sum
 
 -- One claim.
 module _ (marks : List ℕ) (alphabet c told : ℕ) where
-  pub claim-none : told ≡ 0 → Says true (Claim marks alphabet c told)
-  claim-none none = say-yes (inl none)
-
-  pub claim-over : (told ≡ 0 → ⊥) → alphabet ≤ c → Says false (Claim marks alphabet c told)
-  claim-over some over = say-no (λ claim. ⊎_elim some (λ w. omega (arith, w.1)) claim)
-
   pub claim-counted : (own : ℕ) → (told ≡ 0 → ⊥) → c < alphabet → length marks ≡ block_size → own ≡ count c (take block_size marks)
       → Says (eqb told own) (Claim marks alphabet c told)
   claim-counted own some low long counted =

@@ -3,18 +3,16 @@ use mathlib.Core.Bool.{Bool, true, false, cond}
 use mathlib.Core.List.{List, []}
 use mathlib.Core.Logic.{inl, inr, ⊎_elim}
 use mathlib.Core.Path.{◌≡◌, refl, sym, ap, ◌∙◌}
-use Prim.Native.Nat.{ℕ, ◌+◌, ◌≤◌}
+use Prim.Native.Nat.{ℕ, ◌+◌}
 use native.Mathlib.Omega.{arith}
 use lib.Dec.{eqb}
 use borrow.Author.Tests.{eq-eqb, ne_eqb}
 use Rattle.geometry.specs.Layout.{record_size, kind_closed, q_at}
-use Rattle.geometry.specs.Limits.{names, most_alphabet}
 use Rattle.geometry.specs.declared.Record.{Record}
-use Rattle.lists.proofs.Sums.{sum_more, sum-all, sum-none}
+use Rattle.lists.proofs.Sums.{sum_more}
 use Rattle.lists.specs.Sums.{sum_below}
 use Rattle.pool.specs.Bytes.{record_at}
 use Rattle.pool.specs.Names.{record_of, blocks_of}
-use Rattle.pool.specs.Shares.{promised_shares}
 use Rattle.pool.specs.Sound.{SoundBelow, OpenName, OpenRecord}
 use Rattle.pool.specs.Trees.{blocks_at, own_marks}
 use Rattle.pool.specs.Words.{WordAt}
@@ -23,10 +21,9 @@ use Rattle.shape.specs.Fill.{root_least}
 use Rattle.pool_check.specs.Walks.{Walked}
 use Rattle.pool_check.specs.Parts.{Zeros, MarksFit, WalkedTree, SoundName}
 use Rattle.pool.proofs.Written.{closed-record}
-use Rattle.pool_check.specs.Parts.{Zeros, MarksFit, WalkedTree, SoundName}
 use Rattle.pool_check.specs.Says.{Says}
 use Rattle.pool_check.proofs.Deciding.{denied, say-same, say-equal}
-use Rattle.pool_check.proofs.Walking.{below_of, under_of, fit_of}
+use Rattle.pool_check.proofs.Walking.{below_of, under_of}
 use Rattle.pool_check.proofs.Walks.{walk_no, walk_same, walk-test}
 
 -- The tree of an open name.
@@ -46,9 +43,6 @@ module _ (p : List ℕ) (name : ℕ) where
   below : Root → Fit → SoundBelow p (record_of p name).alphabet (record_of p name).height (record_of p name).root
   below tree fit = below_of p (record_of p name).alphabet (record_of p name).height (record_of p name).root tree.1 fit
 
-  root-fit : OpenName p name → Fit
-  root-fit o = fit_of p (record_of p name).alphabet (record_of p name).height (record_of p name).root o.below
-
   -- the length is what the root says of itself
   whole : OpenRecord p name → Root → Fit → (record_of p name).length ≡ own_marks p (record_of p name).height (record_of p name).root → OpenName p name
   whole o tree fit long = record {
@@ -64,46 +58,30 @@ module _ (p : List ℕ) (name : ℕ) where
       o.length
       ∙ sym (own-marks p (record_of p name).alphabet (root_least (record_of p name).height) (record_of p name).height (record_of p name).root o.root o.below)
 
-  pub record-refused : (tag : ℕ) (bs map after : List ℕ) (r : Bool) → Says r (OpenRecord p name) → r ≡ false → Walked false (OpenName p name) tag bs map after
-  record-refused tag bs map after r says failed = walk_no tag bs map after (λ o new. denied says failed o.entry)
-
   module _ (tag : ℕ) (map after : List ℕ) (r : Bool) (walked : Walked r Root tag root_blocks map after) where
     refused : r ≡ false → Walked false (OpenName p name) tag root_blocks map after
     refused failed = walk_no tag root_blocks map after (λ o new. denied walked.says failed (root-of o, new))
 
     module _ (f : Bool) (fitted : Says f Fit) where
-      unfit : f ≡ false → Walked false (OpenName p name) tag root_blocks map after
-      unfit failed = walk_no tag root_blocks map after (λ o new. denied fitted failed (root-fit o))
-
       measured : (own : ℕ) → OpenRecord p name → r ≡ true → f ≡ true → own ≡ own_marks p (record_of p name).height (record_of p name).root
           → Walked (eqb own (record_of p name).length) (OpenName p name) tag root_blocks map after
       measured own o passed fit summed =
           walk_same tag root_blocks map after (λ g. whole o g.0 (fitted.sound fit) g.1) (λ n. (root-of n, long_of n))
           (walk-test tag root_blocks map after passed walked (say-equal own (record_of p name).length) (λ tree e. sym e ∙ summed) (λ tree e. summed ∙ sym e))
 
--- the same as the code has it: the record and the holder in locals
-module _ (p : List ℕ) (name tag holder fewest : ℕ) (found : Record) (is : found ≡ record_of p name) (few : fewest ≡ root_least found.height)
-    (held : holder ≡ tag) (map after : List ℕ) (r : Bool)
-    (walked : Walked r (WalkedTree p found.alphabet fewest found.height found.root) holder (blocks_at p found.height found.root) map after) where
+-- the same as the code has it: what it reads of the record, and the holder, in locals
+module _ (p : List ℕ) (name tag holder fewest height root long : ℕ) (found : Record) (is : found ≡ record_of p name) (few : fewest ≡ root_least height)
+    (held : holder ≡ tag) (high : height ≡ found.height) (at : root ≡ found.root) (so : long ≡ found.length) (map after : List ℕ) (r : Bool)
+    (walked : Walked r (WalkedTree p found.alphabet fewest height root) holder (blocks_at p height root) map after) where
   there : Walked r (Root p name) tag (root_blocks p name) map after
-  there = rw (few, held, is) at walked
+  there = rw (few, held, high, at, is) at walked
 
-  pub root-refused : r ≡ false → Walked false (OpenName p name) tag (blocks_at p found.height found.root) map after
-  root-refused failed = rw is (refused p name tag map after r there failed)
-
-  module _ (f : Bool) (fitted : Says f (MarksFit p found.alphabet found.height found.root)) where
-    pub root-unfit : f ≡ false → Walked false (OpenName p name) tag (blocks_at p found.height found.root) map after
-    root-unfit failed = rw is (unfit p name tag map after r there f (rw is at fitted) failed)
-
-    pub root-measured : (s : Bool) (own : ℕ) → Says s (OpenRecord p name) → s ≡ true → r ≡ true → f ≡ true → own ≡ own_marks p found.height found.root
-        → Walked (eqb own found.length) (OpenName p name) tag (blocks_at p found.height found.root) map after
+  module _ (f : Bool) (fitted : Says f (MarksFit p found.alphabet height root)) where
+    pub root-measured : (s : Bool) (own : ℕ) → Says s (OpenRecord p name) → s ≡ true → r ≡ true → f ≡ true → own ≡ own_marks p height root
+        → Walked (eqb own long) (OpenName p name) tag (blocks_at p found.height found.root) map after
     root-measured s own says opened passed fit summed =
-        rw is (measured p name tag map after r there f (rw is at fitted) own (says.sound opened) passed fit (rw is at summed))
-
--- what the walk asks of the alphabet
-pub alphabet-fits : (p : List ℕ) (name : ℕ) (found : Record) (s : Bool) → found ≡ record_of p name → Says s (OpenRecord p name) → s ≡ true
-    → found.alphabet ≤ most_alphabet
-alphabet-fits p name found s is says opened = rw is (says.sound opened).alphabet_most
+        rw (so, is)
+        (measured p name tag map after r there f (rw (high, at, is) at fitted) own (says.sound opened) passed fit (rw (high, at, is) at summed))
 
 -- A name, by its kind.
 module _ (p : List ℕ) (name : ℕ) (found : Record) (is : found ≡ record_of p name) where
@@ -138,20 +116,8 @@ module _ (p : List ℕ) (name : ℕ) (found : Record) (is : found ≡ record_of 
       (walk_same tag (blocks_at p found.height found.root) map after (λ o. inr o)
       (λ n. ⊎_elim (λ c. absurd (kind (ap (λ (r : Record). r.kind) (closed-record p name c)))) (λ o. o) n) walked)
 
--- The shares that the names below a number are promised.
-unfoldable pub promised_below : List ℕ → ℕ → ℕ
-promised_below p name = sum_below name (λ n. (record_of p n).q)
-
-module _ (p : List ℕ) where
-  pub promise-none : 0 ≡ promised_below p 0
-  unfolding promised_below
-  promise-none = sum-none (λ n. (record_of p n).q)
-
-  pub promise-more : (name at sum q : ℕ) → at ≡ record_at name → sum ≡ promised_below p name → WordAt p (at + q_at) q
-      → sum + q ≡ promised_below p (name + 1)
-  unfolding promised_below record_of
-  promise-more name at sum q place so read = sum_more (λ n. (record_of p n).q) name sum q so (rw place at read.is)
-
-  pub promise-all : (name sum : ℕ) → sum ≡ promised_below p name → name ≤ names → names ≤ name → sum ≡ promised_shares p
-  unfolding promised_below promised_shares
-  promise-all name sum so low end = sum-all (λ n. (record_of p n).q) names name sum so low end
+-- The shares promised to one name more.
+pub promise-more : (p : List ℕ) (name at sum q : ℕ) → at ≡ record_at name → sum ≡ sum_below name (λ n. (record_of p n).q) → WordAt p (at + q_at) q
+    → sum + q ≡ sum_below (name + 1) (λ n. (record_of p n).q)
+unfolding record_of
+promise-more p name at sum q place so read = sum_more (λ n. (record_of p n).q) name sum q so (rw place at read.is)

@@ -28,10 +28,6 @@ pub record PaddedTo (leaf marks : List ℕ) (i : ℕ) : Type 0 where
   pub counts : (c : ℕ) → c < most_alphabet → count c (take i marks) ≡ count c (take i leaf)
 
 module _ (leaf marks : List ℕ) where
-  pub padded-none : PaddedTo leaf marks 0
-  unfolding count
-  padded-none = record { counts = λ c low. refl }
-
   module _ (i x : ℕ) (room : i < length marks) (before : PaddedTo leaf marks i) where
     -- one place more counts what was put there
     counted : (c : ℕ) → count c (take (suc i) (set marks i x)) ≡ count c (take i marks) + is_mark c x

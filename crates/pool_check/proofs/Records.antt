@@ -1,8 +1,8 @@
 -- The record of an open name, test by test: it is refused by the first that fails.
-use mathlib.Core.Bool.{Bool, false}
+use mathlib.Core.Bool.{Bool}
 use mathlib.Core.List.{List}
-use mathlib.Core.Path.{◌≡◌, ap, ◌∙◌}
-use Prim.Native.Nat.{ℕ, ◌+◌, ◌-◌, ◌*◌, ◌≤◌, ◌<◌}
+use mathlib.Core.Path.{◌≡◌, ap}
+use Prim.Native.Nat.{ℕ, ◌+◌, ◌-◌, ◌*◌, ◌≤◌}
 use native.Mathlib.Omega.{arith}
 use Rattle.geometry.specs.Layout.{record_size, kind_marks, most_height, zero_at, spare_at}
 use Rattle.geometry.specs.Limits.{least_alphabet, most_alphabet, marks_per_share}
@@ -12,7 +12,7 @@ use Rattle.pool.specs.Names.{record_of}
 use Rattle.pool.specs.Sound.{OpenRecord}
 use Rattle.pool_check.specs.Parts.{Zeros}
 use Rattle.pool_check.specs.Says.{Says}
-use Rattle.pool_check.proofs.Deciding.{say-no, say-same}
+use Rattle.pool_check.proofs.Deciding.{say-same}
 
 module _ (p : List ℕ) (name : ℕ) (found : Record) (is : found ≡ record_of p name) where
   same_kind : found.kind ≡ (record_of p name).kind
@@ -29,27 +29,6 @@ module _ (p : List ℕ) (name : ℕ) (found : Record) (is : found ≡ record_of 
 
   same_length : found.length ≡ (record_of p name).length
   same_length = ap (λ (r : Record). r.length) is
-
-  pub other-kind : (found.kind ≡ kind_marks → ⊥) → Says false (OpenRecord p name)
-  other-kind other = say-no (λ o. other (same_kind ∙ o.kind))
-
-  pub small-alphabet : found.alphabet < least_alphabet → Says false (OpenRecord p name)
-  small-alphabet small = say-no (λ o. omega (arith, o.alphabet_least, same-alphabet))
-
-  pub large-alphabet : most_alphabet < found.alphabet → Says false (OpenRecord p name)
-  large-alphabet large = say-no (λ o. omega (arith, o.alphabet_most, same-alphabet))
-
-  pub no-promise : found.q < 1 → Says false (OpenRecord p name)
-  no-promise none = say-no (λ o. omega (arith, o.promise, same-q))
-
-  pub too-high : most_height < found.height → Says false (OpenRecord p name)
-  too-high high = say-no (λ o. omega (arith, o.height, same-height))
-
-  pub no_room : marks_per_share * found.q < found.length → Says false (OpenRecord p name)
-  no_room over = say-no (λ o. omega (arith, o.room, same-q, same_length))
-
-  pub zero-set : (at : ℕ) → at ≡ record_at name → (byte p (at + zero_at) ≡ 0 → ⊥) → Says false (OpenRecord p name)
-  zero-set at place other = say-no (λ o. other (rw place o.zero_byte))
 
   pub record-passed : (at : ℕ) (r : Bool) → at ≡ record_at name → found.kind ≡ kind_marks → least_alphabet ≤ found.alphabet → found.alphabet ≤ most_alphabet → 1 ≤ found.q
       → found.height ≤ most_height

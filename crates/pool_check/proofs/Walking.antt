@@ -4,14 +4,13 @@ use mathlib.Core.Bool.{Bool, true, false}
 use mathlib.Core.List.{List, [], ◌∷◌}
 use mathlib.Core.Logic.{⊎_elim}
 use mathlib.Core.Path.{◌≡◌, refl, sym}
-use Prim.Native.Nat.{ℕ, zero, suc, ◌+◌, ◌-◌, ◌*◌, ◌≤◌, ◌<◌}
+use Prim.Native.Nat.{ℕ, zero, suc, ◌+◌, ◌-◌, ◌<◌}
 use native.Mathlib.Nat.{eq-or-lt_of_le}
 use native.Mathlib.Numerals.{add-one}
 use native.Mathlib.Omega.{arith}
 use Rattle.lists.specs.Froms.{from}
 use Rattle.lists.specs.Joins.{joined}
 use Rattle.pool_entries.specs.Summaries.{Is}
-use Rattle.geometry.specs.Layout.{most_branch}
 use Rattle.pool.specs.Blocks.{entries, link, children}
 use Rattle.pool.specs.Bytes.{shares}
 use Rattle.pool.specs.Sound.{SoundBlock, SoundBelow, Tells}
@@ -22,7 +21,6 @@ use Rattle.pool_check.specs.Walks.{Walked}
 use Rattle.pool_check.specs.Parts.{MarksFit, SoundUnder, WalkedTree, SoundChildren, Matches}
 use Rattle.pool_check.specs.Says.{Says}
 use Rattle.pool_check.proofs.Deciding.{say-yes, denied}
-use Rattle.pool_entries.proofs.Levels.{most-branch}
 use Rattle.pool_check.proofs.Walks.{walk_no, walk_same, walk-both, walk-fails, walk-test, walk-found}
 
 -- What stands below a block: the blocks that were walked, and the marks of a leaf.
@@ -39,37 +37,11 @@ module _ (p : List ℕ) (alphabet : ℕ) where
   fit_of zero b below = below
   fit_of (suc h) b below = tt
 
--- The measures: 5 for each level, and between two levels the children that are left.
-pub children-below : (h many t : ℕ) → 5 * h ≡ t → (h ≡ 0 → ⊥) → 0 + many ≤ most_branch → 5 * (h - 1) + many + 1 < t
-children-below zero many t at branch few = absurd (branch refl)
-children-below (suc h) many t at branch few = omega arith
-
-pub block-below : (h left t : ℕ) → 5 * h + left + 1 ≡ t → 5 * h < t
-block-below h left t at = omega arith
-
-pub fewer-children : (h left t : ℕ) → 5 * h + left + 1 ≡ t → (left ≡ 0 → ⊥) → 5 * h + (left - 1) + 1 < t
-fewer-children h zero t at some = absurd (some refl)
-fewer-children h (suc left) t at some = omega arith
-
 module _ (p : List ℕ) (alphabet tag : ℕ) where
   -- A block, refused or entered.
   module _ (fewest h b : ℕ) (map entered : List ℕ) (r : Bool) (walked : Walked r (SoundBlock p fewest h b) tag (b ∷ []) map entered) where
     pub block_inside : r ≡ true → b < shares p
     block_inside passed = (walk-found tag passed walked).inside
-
-    pub branch_fits : (many : ℕ) → r ≡ true → Is (entries p b) many → (h ≡ 0 → ⊥) → 0 + many ≤ most_branch
-    branch_fits many passed size branch = omega (arith, (walk-found tag passed walked).fits, size.is, most-branch h branch)
-
-  pub block_refused : (fewest h b : ℕ) (map after : List ℕ) (r : Bool) → Walked r (SoundBlock p fewest h b) tag (b ∷ []) map after → r ≡ false
-      → Walked false (WalkedTree p alphabet fewest h b) tag (blocks_at p h b) map after
-  block_refused fewest zero b map after r walked failed = walk-fails tag (b ∷ []) [] map after after failed walked
-  block_refused fewest (suc h) b map after r walked failed =
-      walk-fails tag (b ∷ []) (joined (blocks_at p h) (children p b)) map after after failed walked
-
-  pub leaf_walked : (fewest h b : ℕ) (map after : List ℕ) (r : Bool) → Walked r (SoundBlock p fewest h b) tag (b ∷ []) map after → r ≡ true → h ≡ 0
-      → Walked true (WalkedTree p alphabet fewest h b) tag (blocks_at p h b) map after
-  leaf_walked fewest zero b map after r walked passed leaf = walk-test tag (b ∷ []) map after passed walked (say-yes tt) (λ block u. u) (λ block u. u)
-  leaf_walked fewest (suc h) b map after r walked passed leaf = absurd (omega arith)
 
   pub branch-walked : (fewest h b many : ℕ) (map entered after : List ℕ) (r s : Bool) → Walked r (SoundBlock p fewest h b) tag (b ∷ []) map entered → r ≡ true
       → (h ≡ 0 → ⊥)

@@ -36,24 +36,14 @@ pub fn enter(
     ensures { Walked result (SoundBlock pool.now fewest level b) holder (b ∷ [])
         map.old map.new }
 {
-    if b >= shares_of(pool) {
-        return false;
+    let enters = b < shares_of(pool)
+        && map[b] == 0
+        && pool[block_at(b) + Record::FORM_AT] == Record::FORM_MARKS
+        && (fewest..=most_entries(level)).contains(&entry_count(pool, b));
+    if enters {
+        map[b] = holder;
     }
-    if map[b] != 0 {
-        return false;
-    }
-    if pool[block_at(b) + Record::FORM_AT] != Record::FORM_MARKS {
-        return false;
-    }
-    let many = entry_count(pool, b);
-    if many < fewest {
-        return false;
-    }
-    if many > most_entries(level) {
-        return false;
-    }
-    map[b] = holder;
-    true
+    enters
 }
 
 // Whether all marks of a leaf are below the alphabet's size.
@@ -62,14 +52,7 @@ fn marks_below(pool: &[u8], b: usize, many: usize, alphabet: u8) -> bool
     ensures { Says result (AllBelow alphabet (leaf_marks pool.now b)) }
 {
     let at = block_at(b);
-    let mut i = 0;
-    while i < many {
-        if pool[at + i] >= alphabet {
-            return false;
-        }
-        i += 1;
-    }
-    true
+    pool[at..at + many].iter().all(|mark| *mark < alphabet)
 }
 
 // The same for a root, which is a leaf at level 0 alone.
@@ -77,9 +60,5 @@ pub fn root_fits(pool: &[u8], level: usize, b: usize, alphabet: u8) -> bool
     requires { (b < shares pool.now) × (entries pool.now b ≤ most one_to_a_byte level) }
     ensures { Says result (MarksFit pool.now alphabet level b) }
 {
-    if level != 0 {
-        return true;
-    }
-    let many = entry_count(pool, b);
-    marks_below(pool, b, many, alphabet)
+    level != 0 || marks_below(pool, b, entry_count(pool, b), alphabet)
 }

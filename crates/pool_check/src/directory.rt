@@ -13,12 +13,10 @@ pub fn all_zero(pool: &[u8], at: usize, many: usize) -> bool
     ensures { Says result (Zeros pool.now at many) }
 {
     let mut clean = true;
-    let mut i = 0;
-    while i < many {
-        if pool[at + i] != 0 {
+    for byte in &pool[at..at + many] {
+        if *byte != 0 {
             clean = false;
         }
-        i += 1;
     }
     clean
 }
@@ -28,8 +26,5 @@ pub fn header_sound(pool: &[u8]) -> bool
     requires { directory_size ≤ length pool.now }
     ensures { Says result (SoundHeader pool.now) }
 {
-    if pool[0] != Record::LAYOUT_NUMBER {
-        return false;
-    }
-    all_zero(pool, 1, Record::HEADER_SIZE - 1)
+    pool[0] == Record::LAYOUT_NUMBER && all_zero(pool, 1, Record::HEADER_SIZE - 1)
 }

@@ -22,26 +22,18 @@ pub use names::promised;
 pub fn length_allowed(bytes: usize) -> bool
     ensures { Says result (LengthAllowed bytes) }
 {
-    if bytes % Record::BLOCK_SIZE != 0 {
-        return false;
-    }
-    if bytes < Record::SHORTEST_POOL {
-        return false;
-    }
-    bytes <= Record::LONGEST_POOL
+    bytes % Record::BLOCK_SIZE == 0
+        && (Record::SHORTEST_POOL..=Record::LONGEST_POOL).contains(&bytes)
 }
 
 // Whether the pool is sound. The map then has 0 for each free block, and for each other its holder's number.
 pub fn check(pool: &[u8], map: &mut [u8; Record::MOST_SHARES]) -> bool
     ensures { Checked pool.now result map.new }
 {
-    if !length_allowed(pool.len()) {
-        return false;
-    }
-    if !header_sound(pool) {
-        return false;
-    }
-    if promised(pool) > shares_of(pool) {
+    let outlined = length_allowed(pool.len())
+        && header_sound(pool)
+        && promised(pool) <= shares_of(pool);
+    if !outlined {
         return false;
     }
     *map = [0; Record::MOST_SHARES];

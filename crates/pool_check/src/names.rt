@@ -8,7 +8,6 @@ ghost use Rattle.pool.specs.Trees.{blocks_at};
 ghost use Rattle.pool_holders.specs.Maps.{holder_of};
 ghost use Rattle.pool_check.specs.Walks.{Walked, WalkedNames};
 ghost use Rattle.pool_check.specs.Parts.{SoundName};
-ghost use Rattle.pool_check.specs.Parts.{SoundName};
 ghost use Rattle.pool_check.specs.Says.{Says};
 
 use crate::block::{least_of_root, root_fits};
@@ -24,36 +23,17 @@ fn record_sound(pool: &[u8], name: usize, found: Record) -> bool
     requires { (name < names) × (directory_size ≤ length pool.now) × (found ≡ record_of pool.now name) }
     ensures { Says result (OpenRecord pool.now name) }
 {
-    let alphabet = found.alphabet as usize;
-    let q = found.q as usize;
-    let length = found.length as usize;
+    let alphabet = usize::from(found.alphabet);
+    let q = usize::from(found.q);
     let at = record_at(name);
-    if found.kind != Record::KIND_MARKS {
-        return false;
-    }
-    if alphabet < Record::LEAST_ALPHABET {
-        return false;
-    }
-    if alphabet > Record::MOST_ALPHABET {
-        return false;
-    }
-    if q < 1 {
-        return false;
-    }
-    if found.height as usize > Record::MOST_HEIGHT {
-        return false;
-    }
-    if length > Record::MARKS_PER_SHARE * q {
-        return false;
-    }
-    if pool[at + Record::ZERO_AT] != 0 {
-        return false;
-    }
-    all_zero(
-        pool,
-        at + Record::SPARE_AT,
-        Record::RECORD_SIZE - Record::SPARE_AT,
-    )
+    let spare = at + Record::SPARE_AT;
+    found.kind == Record::KIND_MARKS
+        && (Record::LEAST_ALPHABET..=Record::MOST_ALPHABET).contains(&alphabet)
+        && q >= 1
+        && usize::from(found.height) <= Record::MOST_HEIGHT
+        && usize::from(found.length) <= Record::MARKS_PER_SHARE * q
+        && pool[at + Record::ZERO_AT] == 0
+        && all_zero(pool, spare, Record::RECORD_SIZE - Record::SPARE_AT)
 }
 
 // Whether an open name is sound and holds no block that was met before. Its height is tested before the walk.
@@ -63,20 +43,15 @@ fn check_open(pool: &[u8], name: usize, found: Record, map: &mut [u8; Record::MO
     ensures { Walked result (OpenName pool.now name) (holder_of name)
         (blocks_at pool.now found.height found.root) map.old map.new }
 {
-    if !record_sound(pool, name, found) {
-        return false;
-    }
-    let height = found.height as usize;
-    let root = found.root as usize;
+    let alphabet = found.alphabet;
+    let height = usize::from(found.height);
+    let root = usize::from(found.root);
     let fewest = least_of_root(height);
     let holder = holder_of(name);
-    if !check_block(&pool, height, root, fewest, found.alphabet, map, holder) {
-        return false;
-    }
-    if !root_fits(pool, height, root, found.alphabet) {
-        return false;
-    }
-    own_marks(pool, height, root) == found.length as usize
+    record_sound(pool, name, found)
+        && check_block(&pool, height, root, fewest, alphabet, map, holder)
+        && root_fits(pool, height, root, alphabet)
+        && own_marks(pool, height, root) == usize::from(found.length)
 }
 
 // Whether a name is sound and holds no block that was met before.
@@ -87,9 +62,10 @@ fn check_name(pool: &[u8], name: usize, map: &mut [u8; Record::MOST_SHARES]) -> 
 {
     let found = read_record(pool, name);
     if found.kind == Record::KIND_CLOSED {
-        return all_zero(pool, record_at(name), Record::RECORD_SIZE);
+        all_zero(pool, record_at(name), Record::RECORD_SIZE)
+    } else {
+        check_open(pool, name, found, map)
     }
-    check_open(pool, name, found, map)
 }
 
 // Whether all names are sound and no block is met twice.
@@ -97,12 +73,10 @@ pub fn check_names(pool: &[u8], map: &mut [u8; Record::MOST_SHARES]) -> bool
     requires { (directory_size ≤ length pool.now) × (length pool.now ≤ longest_pool) }
     ensures { WalkedNames result (SoundName pool.now) pool.now names map.old map.new }
 {
-    let mut name = 0;
-    while name < Record::NAMES {
+    for name in 0..Record::NAMES {
         if !check_name(pool, name, map) {
             return false;
         }
-        name += 1;
     }
     true
 }
@@ -113,10 +87,8 @@ pub fn promised(pool: &[u8]) -> usize
     ensures { result ≡ promised_shares pool.now }
 {
     let mut sum = 0;
-    let mut name = 0;
-    while name < Record::NAMES {
+    for name in 0..Record::NAMES {
         sum += word(pool, record_at(name) + Record::Q_AT);
-        name += 1;
     }
     sum
 }

@@ -37,10 +37,7 @@ pub fn check_block(
         return false;
     }
     let many = entry_count(*pool, b);
-    if level == 0 {
-        return true;
-    }
-    check_children(pool, level - 1, b, 0, many, alphabet, map, holder)
+    level == 0 || check_children(pool, level - 1, b, 0, many, alphabet, map, holder)
 }
 
 // The same for a branch's children of a level, from child k on, so many as are left; each entry must repeat its child's summary.
@@ -66,19 +63,8 @@ fn check_children(
         return true;
     }
     let child = link(*pool, b, k);
-    if !check_block(
-        pool,
-        level,
-        child,
-        least_entries(level),
-        alphabet,
-        map,
-        holder,
-    ) {
-        return false;
-    }
-    if !repeats(*pool, level, b, k, child, alphabet) {
-        return false;
-    }
-    check_children(pool, level, b, k + 1, left - 1, alphabet, map, holder)
+    let fewest = least_entries(level);
+    check_block(pool, level, child, fewest, alphabet, map, holder)
+        && repeats(*pool, level, b, k, child, alphabet)
+        && check_children(pool, level, b, k + 1, left - 1, alphabet, map, holder)
 }

@@ -2,7 +2,7 @@
 // `tests/damaged_pools.py` makes the table and what is to be written.
 #![tactic(auto)]
 
-ghost use Rattle.std.specs.Prelude.{◌+◌, ◌≤◌, ◌<◌, length};
+ghost use Rattle.std.specs.Prelude.{◌+◌, ◌≤◌, length};
 
 use geometry::Record;
 use std::io;
@@ -35,18 +35,12 @@ fn main(rt: HostRuntime) -> io::Result<()> {
 fn run_case(
     rt: &impl Print,
     input: &mut impl Read,
-    head: &[u8],
-    pool: &mut [u8],
+    head: &[u8; HEAD_SIZE],
+    pool: &mut [u8; ROOM],
 ) -> io::Result<()> {
-    if head.len() < HEAD_SIZE {
-        return Ok(());
-    }
     let told = number(head, 0);
     let given = number(head, NUMBER_SIZE);
-    if told > pool.len() {
-        return Ok(());
-    }
-    if given > told {
+    if told > pool.len() || given > told {
         return Ok(());
     }
     let long = read_full(input, &mut pool[..given])?;
@@ -72,11 +66,5 @@ fn read_full(input: &mut impl Read, mut buf: &mut [u8]) -> io::Result<u64> {
 fn number(head: &[u8], at: usize) -> usize
     requires { at + 3 ≤ length head.now }
 {
-    wide(head[at]) + 256 * wide(head[at + 1]) + 65536 * wide(head[at + 2])
-}
-
-fn wide(x: u8) -> usize
-    ensures { result < 256 }
-{
-    x as usize
+    u32::from_le_bytes([head[at], head[at + 1], head[at + 2], 0]) as usize
 }

@@ -47,11 +47,16 @@ impl Block<'_> {
     {
         let first = self.entry_word(0, offset);
         let both = first + self.entry_word(1, offset);
-        match k {
-            0 => 0,
-            1 => first,
-            2 => both,
-            _ => both + self.entry_word(2, offset),
+        if k > 2 {
+            return both + self.entry_word(2, offset);
         }
+        let mut sum = 0;
+        if k > 0 {
+            sum = first;
+        }
+        if k > 1 {
+            sum = both;
+        }
+        sum
     }
 }

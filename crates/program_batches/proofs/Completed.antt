@@ -3,39 +3,36 @@
 use mathlib.Core.Bool.{true, false}
 use mathlib.Core.Path.{◌≡◌, refl, sym, ap, ◌∙◌}
 use mathlib.Core.List.{List, [], ◌∷◌, ◌++◌, append_assoc, append-nil}
-use Prim.Native.Nat.{ℕ, suc, ◌+◌, ◌-◌, ◌*◌, ◌^◌, ◌≤◌, ◌<◌}
-use native.Mathlib.Nat.{add-zero, sub-zero}
+use Prim.Native.Nat.{ℕ, suc, ◌+◌, ◌-◌, ◌*◌, ◌≤◌, ◌<◌}
+use native.Mathlib.Nat.{add-zero}
 use native.Mathlib.Decide.{ℕ_discrete}
 use native.Mathlib.Omega.{arith}
 use borrow.Author.Tests.{eq-eqb, ne_eqb}
 use lib.Dec.{eqb}
 use lib.ListN.{length, get_or, take, drop}
 use lib.Seq.{take_at, drop_at, take-add, drop-drop, get_or-drop, paste}
-use mir.Syntax.{w64}
-use mir.Val.{Fits}
+use Rattle.std.proofs.Common.{Option, Some, None}
 use Rattle.geometry.specs.Limits.{frame_size}
 use Rattle.lists.specs.Joins.{joined}
 use Rattle.text_hex.specs.Digits.{digit_of, digits_of}
 use Rattle.text_hex.specs.Lines.{line_of, line_size, digits_of_frame}
-use Rattle.text_hex.specs.declared.read.Reading.{Reading}
-use Rattle.text_hex.specs.declared.read.Reading.TheVariants.{Frame, Bad}
 use Rattle.text_hex.proofs.Fronts.{front-with, back-with, long-with}
 use Rattle.text_hex.proofs.Written.{length-of-line}
-use Rattle.protocol.specs.Frames.{answer_of_bytes}
-use Rattle.protocol.specs.declared.Answer.{Answer}
+use Rattle.protocol.specs.Frames.{answer_of_bytes, frame_of_answer, frame_of_bytes}
+use Rattle.protocol.specs.declared.Frame.{Frame}
 use Rattle.program_batches.specs.Answers.{bad_answer, line_of_answer, line_of_bytes}
-use Rattle.program_batches.specs.Batch.{draft_of, kept_byte, kept_in, completed, PutsAnswer, Completes}
+use Rattle.program_batches.specs.Batch.{zeros, draft_of, kept_byte, kept_in, completed, PutsAnswer, Completes}
 use Rattle.program_batches.proofs.Framed.{commands_read}
 
 -- a line in front of others
-pub take-line : (a b c d n : ℕ) (rest : List ℕ) → take line_size (line_of a b c d n ++ rest) ≡ line_of a b c d n
-take-line a b c d n rest = take_at (line_of a b c d n) rest line_size (length-of-line a b c d n)
+pub take-line : (frame : Frame) (rest : List ℕ) → take line_size (line_of frame ++ rest) ≡ line_of frame
+take-line frame rest = take_at (line_of frame) rest line_size (length-of-line frame)
 
-pub drop-line : (a b c d n : ℕ) (rest : List ℕ) → drop line_size (line_of a b c d n ++ rest) ≡ rest
-drop-line a b c d n rest = drop_at (line_of a b c d n) rest line_size (length-of-line a b c d n)
+pub drop-line : (frame : Frame) (rest : List ℕ) → drop line_size (line_of frame ++ rest) ≡ rest
+drop-line frame rest = drop_at (line_of frame) rest line_size (length-of-line frame)
 
 -- zeros keep a place, a bad line's answer doesn't
-pub zeros-keep : (rest : List ℕ) → eqb (get_or (line_of 0 0 0 0 0 ++ rest) 0 0) kept_byte ≡ true
+pub zeros-keep : (rest : List ℕ) → eqb (get_or (line_of zeros ++ rest) 0 0) kept_byte ≡ true
 unfolding line_of digits_of_frame digits_of digit_of
 zeros-keep rest = refl
 
@@ -44,43 +41,30 @@ unfolding line_of digits_of_frame digits_of digit_of
 bad-keeps-none rest = refl
 
 -- one place for each frame
-pub kept-in-drafts : (rs : List Reading) (rest : List ℕ) → kept_in (length rs) (joined draft_of rs ++ rest) ≡ length (commands_read rs)
+pub kept-in-drafts : (rs : List (Option Frame)) (rest : List ℕ) → kept_in (length rs) (joined draft_of rs ++ rest) ≡ length (commands_read rs)
 unfolding kept_in
 kept-in-drafts [] rest = refl
-kept-in-drafts (Frame code name symbol fourth number ∷ rs) rest =
-    rw (append_assoc (line_of 0 0 0 0 0) (joined draft_of rs) rest, zeros-keep (joined draft_of rs ++ rest), drop-line 0 0 0 0 0 (joined draft_of rs ++ rest))
+kept-in-drafts (Some frame ∷ rs) rest =
+    rw (append_assoc (line_of zeros) (joined draft_of rs) rest, zeros-keep (joined draft_of rs ++ rest), drop-line zeros (joined draft_of rs ++ rest))
     (omega (arith, kept-in-drafts rs rest))
-kept-in-drafts (Bad ∷ rs) rest =
-    rw (append_assoc (line_of_answer bad_answer) (joined draft_of rs) rest, bad-keeps-none (joined draft_of rs ++ rest), drop-line 255 0 0 0 0 (joined draft_of rs ++ rest))
+kept-in-drafts (None ∷ rs) rest =
+    rw (append_assoc (line_of_answer bad_answer) (joined draft_of rs) rest, bad-keeps-none (joined draft_of rs ++ rest), drop-line (frame_of_answer bad_answer) (joined draft_of rs ++ rest))
     (omega (arith, kept-in-drafts rs rest))
 
 length-of-bytes : (bytes : List ℕ) → length (line_of_bytes bytes) ≡ line_size
 unfolding line_of_bytes
-length-of-bytes bytes =
-    length-of-line (answer_of_bytes bytes).status (answer_of_bytes bytes).name (answer_of_bytes bytes).symbol (answer_of_bytes bytes).depth (answer_of_bytes bytes).value
-
--- a place that wasn't kept stays as it is
-pub place-kept-none : (at used : ℕ) (out answers : List ℕ) → (get_or out at 0 ≡ kept_byte → ⊥) → PutsAnswer at used out out answers used
-place-kept-none at used out answers other = record { kept = λ kept. absurd (other kept); other = λ _. (refl, refl) }
-
--- at a place that was kept the caller has an answer
-module _ (at used : ℕ) (out answers : List ℕ) (there : get_or out at 0 ≡ kept_byte → used + frame_size ≤ length answers) (kept : get_or out at 0 ≡ kept_byte) where
-  pub answer-given : used + frame_size ≤ length answers
-  answer-given = there kept
-
-  pub answer-fits : length answers < 2 ^ 64 → Fits w64 (used + frame_size)
-  answer-fits long = record { fits = omega (arith, answer-given) }
+length-of-bytes bytes = length-of-line (frame_of_answer (answer_of_bytes bytes))
 
 -- an answer was read and put at a place that was kept
-pub answer-put : (at used : ℕ) (out out' answers : List ℕ) (answer : Answer) → get_or out at 0 ≡ kept_byte → answer ≡ answer_of_bytes (take frame_size (drop used answers))
-    → out' ≡ paste out at (line_of_answer answer) line_size
+pub answer-put : (at used : ℕ) (out out' answers : List ℕ) (frame : Frame) → get_or out at 0 ≡ kept_byte → frame ≡ frame_of_bytes (take frame_size (drop used answers))
+    → out' ≡ paste out at (line_of frame) line_size
     → PutsAnswer at used out out' answers (used + frame_size)
-unfolding line_of_bytes
-answer-put at used out out' answers answer kept is put =
+unfolding line_of_bytes answer_of_bytes
+answer-put at used out out' answers frame kept is put =
     record {
       kept =
           λ _.
-          (refl, put ∙ ap (λ (a : Answer). paste out at (line_of_answer a) line_size) is);
+          (refl, put ∙ ap (λ (f : Frame). paste out at (line_of f) line_size) is);
       other = λ other. absurd (other kept);
     }
 
@@ -111,15 +95,6 @@ pub record Completing (lines : ℕ) (before out answers : List ℕ) (line used :
   pub long : length out ≡ length before
   pub left : used + frame_size * kept_in (lines - line) (drop (line_size * line) out) ≤ length answers
   pub whole : take (line_size * line) out ++ completed (lines - line) (drop (line_size * line) out) (drop used answers) ≡ completed lines before answers
-
-pub completing-none : (lines : ℕ) (before answers : List ℕ) → frame_size * kept_in lines before ≤ length answers → Completing lines before before answers 0 0
-completing-none lines before answers room =
-    record {
-      few = omega arith;
-      long = refl;
-      left = rw sub-zero (omega arith);
-      whole = rw sub-zero refl;
-    }
 
 module _ (lines : ℕ) (before out answers : List ℕ) (line used : ℕ) (room : line_size * lines ≤ length before)
     (so_far : Completing lines before out answers line used) (below : line < lines) where

@@ -8,9 +8,9 @@ ghost use Rattle.text_hex.specs.Lines.{line_size};
 ghost use Rattle.program_batches.specs.Batch.{PutsLine, ReadsOn, PutsAnswer, Completes, BatchRead, RoomForLine, kept_byte, kept_in};
 
 use geometry::Record;
-use protocol::{Answer, Command};
-use text_hex::{LINE_SIZE, Reading, read_line, write_line};
-use text_lines::{Gathered, first_bytes, gather};
+use protocol::Frame;
+use text_hex::{LINE_SIZE, read_line, write_line};
+use text_lines::{Gathered, Gathering, first_bytes, gather};
 
 // The lines that have been read from a chunk, beside the output with their drafts and the commands of their frames.
 #[derive(Clone, Copy)]
@@ -42,13 +42,11 @@ pub fn read_lines(
         frames: 0,
         line: before,
     };
-    while batch.taken < chunk.len() {
-        if batch.lines >= out.len() / LINE_SIZE {
-            return batch;
-        }
-        if batch.frames >= commands.len() / Record::FRAME_SIZE {
-            return batch;
-        }
+    // each turn takes as many bytes as its line has, so no `for` counts them
+    while batch.taken < chunk.len()
+        && batch.lines < out.len() / LINE_SIZE
+        && batch.frames < commands.len() / Record::FRAME_SIZE
+    {
         batch = take_line(chunk, batch, keep, out, commands);
     }
     batch
@@ -66,29 +64,22 @@ fn take_line(
     ensures { ReadsOn chunk.now batch keep.old keep.new
         out.old out.new commands.old commands.new result }
 {
-    let at = batch.taken;
-    let lines = batch.lines;
-    let frames = batch.frames;
-    let gathering = gather(&chunk[at..], false, batch.line, keep);
-    let taken = at + gathering.taken;
-    let ended = gathering.ended;
-    let line = gathering.line;
-    if ended {
-        let kept = line.kept;
-        let lines_then = lines + 1;
-        let frames = put_line(first_bytes(keep, kept), out, lines, commands, frames);
-        return Batch {
-            taken,
-            lines: lines_then,
-            frames,
-            line: Gathered::start(),
-        };
-    }
-    Batch {
-        taken,
-        lines,
-        frames,
-        line,
+    match gather(&chunk[batch.taken..], false, batch.line, keep) {
+        Gathering::Whole { taken, line } => {
+            let front = first_bytes(keep, line.kept);
+            let frames = put_line(front, out, batch.lines, commands, batch.frames);
+            Batch {
+                taken: batch.taken + taken,
+                lines: batch.lines + 1,
+                frames,
+                line: Gathered::start(),
+            }
+        }
+        Gathering::Unfinished { line } => Batch {
+            taken: chunk.len(),
+            line,
+            ..batch
+        },
     }
 }
 
@@ -100,26 +91,12 @@ fn put_line(line: &[u8], out: &mut [u8], lines: usize, commands: &mut [u8], fram
         commands.old commands.new result }
 {
     let at = LINE_SIZE * lines;
-    let Reading::Frame {
-        code,
-        name,
-        symbol,
-        fourth,
-        number,
-    } = read_line(line)
-    else {
-        write_line(out, at, BAD_LINE, 0, 0, 0, 0);
+    let Some(frame) = read_line(line) else {
+        write_line(out, at, BAD_LINE);
         return frames;
     };
-    write_line(out, at, 0, 0, 0, 0, 0);
-    let command = Command {
-        code,
-        name,
-        symbol,
-        fourth,
-        number,
-    };
-    command.encode(commands, Record::FRAME_SIZE * frames);
+    write_line(out, at, ZEROS);
+    frame.encode(commands, Record::FRAME_SIZE * frames);
     frames + 1
 }
 
@@ -129,10 +106,9 @@ pub fn complete(out: &mut [u8], lines: usize, answers: &[u8])
     ensures { Completes lines out.old out.new answers.now }
 {
     let mut used = 0;
-    let mut line = 0;
-    while line < lines {
+    // not over `chunks_exact_mut`, after whose writes std says nothing of the elements
+    for line in 0..lines {
         used = put_answer(out, LINE_SIZE * line, answers, used);
-        line += 1;
     }
 }
 
@@ -144,21 +120,27 @@ fn put_answer(out: &mut [u8], at: usize, answers: &[u8], used: usize) -> usize
     if out[at] != KEPT {
         return used;
     }
-    let answer = Answer::decode(answers, used);
-    write_line(
-        out,
-        at,
-        answer.status,
-        answer.name,
-        answer.symbol,
-        answer.depth,
-        answer.value,
-    );
+    write_line(out, at, Frame::decode(answers, used));
     used + Record::FRAME_SIZE
 }
 
-// the status that a bad line is answered with
-const BAD_LINE: u8 = 0xFF;
+// what is written for a frame until its answer is known
+const ZEROS: Frame = Frame {
+    first: 0,
+    second: 0,
+    third: 0,
+    fourth: 0,
+    number: 0,
+};
+
+// what a bad line is answered
+const BAD_LINE: Frame = Frame {
+    first: 0xFF,
+    second: 0,
+    third: 0,
+    fourth: 0,
+    number: 0,
+};
 
 // the byte that a place begins with while it is kept for an answer
 const KEPT: u8 = b'0';

@@ -18,8 +18,8 @@ use Rattle.text_hex.specs.Lines.{line_of}
 use Rattle.text_lines.specs.Lines.{Holds}
 use Rattle.text_lines.specs.declared.Gathered.{Gathered}
 use Rattle.text_lines.proofs.Held.{kept-tells}
-use Rattle.protocol.specs.Commands.{insert_code}
-use Rattle.program_insertions.specs.Frames.{file, frame_at, frames_from, frames_of_lines, frame_after}
+use Rattle.protocol.specs.Frames.{frame_of_command}
+use Rattle.program_insertions.specs.Frames.{insertion, frame_at, frames_from, frames_of_lines, frame_after}
 
 frames-from-snoc : (place : ℕ) (lines : List (List ℕ)) (line : List ℕ)
     → frames_from place (lines ++ (line ∷ [])) ≡ frames_from place lines ++ frame_at (place + length lines) line
@@ -74,5 +74,5 @@ pub frame-of-line-held : (lines : ℕ) (line : List ℕ) (s : Gathered) (keep : 
     → frame_after lines (take s.kept keep) ≡ frame_after lines line
 unfolding frame_after frame_at
 frame-of-line-held lines line s keep holds columns =
-    ap (λ m. cond (ltb lines most_marks) (line_of insert_code file m 0 (lines + 1)) [])
+    ap (λ m. cond (ltb lines most_marks) (line_of (frame_of_command (insertion (lines + 1) m))) [])
     (kept-tells mark_of line s keep holds (λ longer. mark-of-kept line (length keep) columns))

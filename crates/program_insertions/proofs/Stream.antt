@@ -1,5 +1,5 @@
 -- What each step leaves of `FileFollows`. A line that ends brings its frame, by the laws on one line more; bytes that end none are gathered.
-use mathlib.Core.Bool.{Bool, true, false}
+use mathlib.Core.Bool.{Bool, true}
 use mathlib.Core.Path.{◌≡◌, refl, sym, ap, ◌∙◌}
 use mathlib.Core.List.{List, [], ◌∷◌, ◌++◌, append-nil, append_assoc}
 use Prim.Native.Nat.{ℕ, zero, suc, ◌+◌, ◌-◌, ◌≤◌, ◌<◌, min}
@@ -17,11 +17,13 @@ use Rattle.text_hex.proofs.Fronts.{front-with, long-with}
 use Rattle.text_hex.proofs.Written.{length-of-line}
 use Rattle.text_lines.specs.Lines.{Stands, Holds, Gathers, Finishes, ended, left, trim, piece}
 use Rattle.text_lines.specs.declared.Gathered.{Gathered}
-use Rattle.text_lines.specs.declared.Gathering.{Gathering}
+use Rattle.text_lines.specs.declared.Gathering.TheVariants.{Whole, Unfinished}
+use Rattle.text_lines.proofs.Chunks.{rest_some, step-within, step_less}
 use Rattle.text_lines.proofs.Held.{lines-all-ended, lines-one-open}
 use Rattle.text_lines.proofs.Taken.{line-more, nothing_left, no-line-more, more_left}
-use Rattle.protocol.specs.Commands.{insert_code}
-use Rattle.program_insertions.specs.Frames.{file, frame_at, frames_of_file, frames_from, frames_of_lines, frame_after}
+use Rattle.protocol.specs.Frames.{frame_of_command}
+use Rattle.protocol.specs.declared.Frame.{Frame}
+use Rattle.program_insertions.specs.Frames.{insertion, frame_at, frames_of_file, frames_from, frames_of_lines, frame_after}
 use Rattle.program_insertions.specs.Stream.{FileFollows, FileStarts, FileTakesIn, GoesOn, PutsFrame, FileEnds}
 use Rattle.program_insertions.specs.declared.Progress.{Progress}
 use Rattle.program_streams.specs.declared.Taken.{Taken}
@@ -41,66 +43,66 @@ frames-with lines line earlier out out' many filled result s keep holds columns 
     (sym (frame-after-limit (length lines) line) ∙ ap (λ k. frame_after k line) (sym is) ∙ sym (frame-of-line-held many line s keep holds columns))
     ∙ sym put.frame)
 
-module _ (bytes : List ℕ) (before : Progress) (keep keep' out out' : List ℕ) (filled : ℕ) (g : Gathering)
-    (gathers : Gathers true bytes before.line keep keep' g) where
+module _ (bytes : List ℕ) (before : Progress) (keep keep' out out' : List ℕ) (filled : ℕ) where
   -- a line has ended: its frame has been put
-  pub line_taken : (start : Gathered) (front : List ℕ) (result lines : ℕ) → ((returns : Bool) (kept : List ℕ) → Stands returns [] start kept) → g.ended ≡ true
-      → front ≡ take g.line.kept keep' → PutsFrame front before.lines out out' filled result → lines ≡ min most_marks (before.lines + 1)
-      → GoesOn bytes before (record { line = start; lines = lines }) keep keep' out out' filled (record { taken = g.taken; filled = result })
-  line_taken start front result lines file-starts ends is_front put is =
-      record {
-        takes = record {
-          within = gathers.within;
-          same = gathers.same;
-          long = put.long;
-          room = λ room. put.room;
-          follows = follows;
-        };
-        onward = λ room some. gathers.onward some;
-      }
-    where
-      follows : (input earlier : List ℕ) → FileFollows input earlier before keep out filled
-          → FileFollows (input ++ take g.taken bytes) earlier (record { line = start; lines = lines }) keep' out' result
-      follows input earlier f =
-          let line : List ℕ = trim true (left [] input ++ piece bytes g) in
-          let columns : last_column ≤ length keep' = omega (arith, gathers.same, f.columns) in
-          let more = line-more true bytes before.line keep keep' g gathers [] input ends in
-          let held : Holds line g.line keep' = (gathers.stands (left [] input) f.line).line in
-          record {
-            line = rw (nothing_left true bytes before.line keep keep' g gathers [] input ends) (file-starts true keep');
-            columns = columns;
-            lines = rw (more, length-append) (omega (arith, f.lines));
-            room = put.room;
-            frames =
-                ap frames_of_lines more
-                ∙ frames-with (ended true [] input) line earlier out out' before.lines filled result g.line keep' held columns f.lines f.frames (rw is_front at put);
-          }
+  module _ (taken : ℕ) (line : Gathered) (gathers : Gathers true bytes before.line keep keep' (Whole taken line)) where
+    pub line_taken : (start : Gathered) (front : List ℕ) (result lines : ℕ) → ((returns : Bool) (kept : List ℕ) → Stands returns [] start kept)
+        → front ≡ take line.kept keep' → PutsFrame front before.lines out out' filled result → lines ≡ min most_marks (before.lines + 1)
+        → GoesOn bytes before (record { line = start; lines = lines }) keep keep' out out' filled (record { taken = taken; filled = result })
+    line_taken start front result lines file-starts is_front put is =
+        record {
+          takes = record {
+            within = gathers.within;
+            same = gathers.same;
+            long = put.long;
+            room = λ room. put.room;
+            follows = follows;
+          };
+          onward = λ room some. gathers.onward some;
+        }
+      where
+        follows : (input earlier : List ℕ) → FileFollows input earlier before keep out filled
+            → FileFollows (input ++ take taken bytes) earlier (record { line = start; lines = lines }) keep' out' result
+        follows input earlier f =
+            let text : List ℕ = trim true (left [] input ++ piece bytes (Whole taken line)) in
+            let columns : last_column ≤ length keep' = omega (arith, gathers.same, f.columns) in
+            let more = line-more true bytes before.line keep keep' (Whole taken line) gathers [] input refl in
+            let held : Holds text line keep' = (gathers.stands (left [] input) f.line).line in
+            record {
+              line = rw (nothing_left true bytes before.line keep keep' (Whole taken line) gathers [] input refl) (file-starts true keep');
+              columns = columns;
+              lines = rw (more, length-append) (omega (arith, f.lines));
+              room = put.room;
+              frames =
+                  ap frames_of_lines more
+                  ∙ frames-with (ended true [] input) text earlier out out' before.lines filled result line keep' held columns f.lines f.frames (rw is_front at put);
+            }
 
   -- no line has ended
-  pub none-taken : g.ended ≡ false
-      → GoesOn bytes before (record { line = g.line; lines = before.lines }) keep keep' out out filled (record { taken = g.taken; filled = filled })
-  none-taken goes_on =
-      record {
-        takes = record {
-          within = gathers.within;
-          same = gathers.same;
-          long = refl;
-          room = λ room. room;
-          follows = follows;
-        };
-        onward = λ room some. gathers.onward some;
-      }
-    where
-      follows : (input earlier : List ℕ) → FileFollows input earlier before keep out filled
-          → FileFollows (input ++ take g.taken bytes) earlier (record { line = g.line; lines = before.lines }) keep' out filled
-      follows input earlier f =
-          record {
-            line = rw (more_left true bytes before.line keep keep' g gathers [] input goes_on) (gathers.stands (left [] input) f.line);
-            columns = omega (arith, gathers.same, f.columns);
-            lines = rw (no-line-more true bytes before.line keep keep' g gathers [] input goes_on) f.lines;
-            room = f.room;
-            frames = ap frames_of_lines (no-line-more true bytes before.line keep keep' g gathers [] input goes_on) ∙ f.frames;
-          }
+  module _ (line : Gathered) (gathers : Gathers true bytes before.line keep keep' (Unfinished line)) where
+    pub none-taken : GoesOn bytes before (record { line = line; lines = before.lines }) keep keep' out out filled (record { taken = length bytes; filled = filled })
+    none-taken =
+        record {
+          takes = record {
+            within = gathers.within;
+            same = gathers.same;
+            long = refl;
+            room = λ room. room;
+            follows = follows;
+          };
+          onward = λ room some. gathers.onward some;
+        }
+      where
+        follows : (input earlier : List ℕ) → FileFollows input earlier before keep out filled
+            → FileFollows (input ++ take (length bytes) bytes) earlier (record { line = line; lines = before.lines }) keep' out filled
+        follows input earlier f =
+            record {
+              line = rw (more_left true bytes before.line keep keep' (Unfinished line) gathers [] input refl) (gathers.stands (left [] input) f.line);
+              columns = omega (arith, gathers.same, f.columns);
+              lines = rw (no-line-more true bytes before.line keep keep' (Unfinished line) gathers [] input refl) f.lines;
+              room = f.room;
+              frames = ap frames_of_lines (no-line-more true bytes before.line keep keep' (Unfinished line) gathers [] input refl) ∙ f.frames;
+            }
 
 -- nothing has been read
 pub file-starts : (line : Gathered) → ((returns : Bool) (keep : List ℕ) → Stands returns [] line keep) → FileStarts (record { line = line; lines = 0 })
@@ -190,19 +192,19 @@ module _ (chunk rest : List ℕ) (before between : Progress) (keep keep₁ out o
   room-used full = taken_all (length chunk - length rest) refl (λ some. full)
 
 -- the frame of a line below the limit has been written behind what was filled
-pub frame-put : (line : List ℕ) (lines : ℕ) (out out' : List ℕ) (filled : ℕ) (mark : ℕ) → filled + line_size ≤ length out → lines < most_marks → mark ≡ mark_of line
-    → out' ≡ paste out filled (line_of insert_code file mark 0 (lines + 1)) line_size → PutsFrame line lines out out' filled (filled + line_size)
+pub frame-put : (line : List ℕ) (lines : ℕ) (out out' : List ℕ) (filled mark : ℕ) (frame : Frame) → filled + line_size ≤ length out → lines < most_marks
+    → mark ≡ mark_of line → frame ≡ frame_of_command (insertion (lines + 1) mark) → out' ≡ paste out filled (line_of frame) line_size
+    → PutsFrame line lines out out' filled (filled + line_size)
 unfolding frame_after frame_at
-frame-put line lines out out' filled mark room below is put =
-    let frame : List ℕ = line_of insert_code file mark 0 (lines + 1) in
-    let long : length frame ≡ line_size = length-of-line insert_code file mark 0 (lines + 1) in
-    let same : length out' ≡ length out = long-with out out' frame filled line_size (filled + line_size) refl long room put in
+frame-put line lines out out' filled mark frame room below is inserts put =
+    let long : length (line_of frame) ≡ line_size = length-of-line frame in
+    let same : length out' ≡ length out = long-with out out' (line_of frame) filled line_size (filled + line_size) refl long room put in
     record {
       long = same;
       room = omega arith;
       frame =
-          front-with out out' frame filled line_size (filled + line_size) refl long room put
-          ∙ ap (λ l. take filled out ++ l) (rw (lt-ltb lines most_marks below, is));
+          front-with out out' (line_of frame) filled line_size (filled + line_size) refl long room put
+          ∙ ap (λ l. take filled out ++ l) (rw (lt-ltb lines most_marks below, inserts, is));
     }
 
 -- past the limit nothing is written

@@ -5,14 +5,20 @@ use Rattle.geometry.specs.Limits.{most_marks}
 use Rattle.text_hex.specs.Lines.{line_of}
 use Rattle.text_lines.specs.Lines.{lines_of}
 use Rattle.protocol.specs.Commands.{insert_code}
+use Rattle.protocol.specs.Frames.{frame_of_command}
+use Rattle.protocol.specs.declared.Command.{Command}
 
 -- the name that the marks go to
 abbrev pub file : ℕ
 file = 0
 
+-- the insertion of a mark at a place
+abbrev pub insertion : ℕ → ℕ → Command
+insertion place mark = record { code = insert_code; name = file; symbol = mark; fourth = 0; number = place }
+
 -- the insert frame of a line's mark at a place, as a line of digits
 unfoldable pub frame_at : ℕ → List ℕ → List ℕ
-frame_at place line = line_of insert_code file (mark_of line) 0 place
+frame_at place line = line_of (frame_of_command (insertion place (mark_of line)))
 
 -- the frames of lines, the first at this place
 unfoldable pub frames_from : ℕ → List (List ℕ) → List ℕ

@@ -8,10 +8,10 @@ ghost use Rattle.program_insertions.specs.Stream.{FileStarts, PutsFrame, GoesOn,
 
 use geometry::Record;
 use program_streams::Taken;
-use protocol::Command;
+use protocol::{Command, Frame, Operation};
 use text_fixed_form::mark;
 use text_hex::{LINE_SIZE, write_line};
-use text_lines::{Gathered, first_bytes, gather};
+use text_lines::{Gathered, Gathering, first_bytes, gather};
 
 // How far a file has been read, beside the buffer that holds the first columns of its unfinished line.
 #[derive(Clone, Copy)]
@@ -64,21 +64,24 @@ fn take_line(
     ensures { GoesOn bytes.now progress.old progress.new keep.old keep.new out.old out.new filled result }
 {
     let before = *progress;
-    let gathering = gather(bytes, true, before.line, keep);
-    let taken = gathering.taken;
-    let ended = gathering.ended;
-    let line = gathering.line;
-    if ended {
-        let kept = line.kept;
-        let filled = put_frame(first_bytes(keep, kept), before.lines, out, filled);
-        *progress = Progress {
-            line: Gathered::start(),
-            lines: one_more(before.lines),
-        };
-        return Taken { taken, filled };
+    match gather(bytes, true, before.line, keep) {
+        Gathering::Whole { taken, line } => {
+            let front = first_bytes(keep, line.kept);
+            let filled = put_frame(front, before.lines, out, filled);
+            *progress = Progress {
+                line: Gathered::start(),
+                lines: one_more(before.lines),
+            };
+            Taken { taken, filled }
+        }
+        Gathering::Unfinished { line } => {
+            progress.line = line;
+            Taken {
+                taken: bytes.len(),
+                filled,
+            }
+        }
     }
-    progress.line = line;
-    Taken { taken, filled }
 }
 
 // The file is over: puts the frame of its last line, if that has no line feed but a byte, at the front of out.
@@ -101,15 +104,14 @@ fn put_frame(line: &[u8], lines: usize, out: &mut [u8], filled: usize) -> usize
     ensures { PutsFrame line.now lines out.old out.new filled result }
 {
     if lines < Record::MOST_MARKS {
-        write_line(
-            out,
-            filled,
-            Command::INSERT,
-            FILE,
-            mark(line),
-            0,
-            (lines + 1) as u32,
-        );
+        let insertion = Command {
+            code: Operation::Insert as u8,
+            name: FILE,
+            symbol: mark(line),
+            fourth: 0,
+            number: (lines + 1) as u32,
+        };
+        write_line(out, filled, Frame::from(insertion));
         return filled + LINE_SIZE;
     }
     filled

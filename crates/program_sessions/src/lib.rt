@@ -18,7 +18,7 @@ use text_lines::{Gathered, LINE_FEED};
 pub fn start(pool: &mut [u8]) -> Gathered
     ensures { SessionStarts pool.old pool.new result }
 {
-    format(pool);
+    let _ = format(pool);
     Gathered::start()
 }
 
@@ -51,7 +51,7 @@ fn answer(pool: &mut [u8], commands: &[u8], out: &mut [u8], lines: usize) -> usi
         × AnswersLines pool.old pool.new commands.now out.old out.new lines }
 {
     let mut answers = [0u8; Record::LONGEST_COMMANDS];
-    run(pool, commands, &mut answers);
+    let _ = run(pool, commands, &mut answers);
     complete(out, lines, &answers);
     LINE_SIZE * lines
 }

@@ -26,7 +26,7 @@ module _ {A : Type 0} (store : Store A) where
   unfolding rows
   same-columns c = columns-of-row c.code (rows lists) ∙ sym (columns-of-row c.code (rows store))
 
-  same-listed : (code : ℕ) → listed lists code ≡ listed store code
+  pub same-listed : (code : ℕ) → listed lists code ≡ listed store code
   unfolding rows
   same-listed code = refl
 

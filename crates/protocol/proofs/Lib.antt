@@ -5,6 +5,7 @@ pub mod Bools
 pub mod Order
 pub mod Refusals
 pub mod Commands
+pub mod Reasons
 pub mod Respond
 pub mod Accepted
 pub mod Valid

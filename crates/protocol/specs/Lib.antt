@@ -5,3 +5,4 @@ pub mod Refusals
 pub mod Respond
 pub mod Valid
 pub mod Edges
+pub mod Numbers

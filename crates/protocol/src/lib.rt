@@ -6,11 +6,14 @@ ghost use Rattle.std.proofs.Math.Seq.{paste};
 ghost use Rattle.geometry.specs.Limits.{frame_size};
 ghost use Rattle.protocol.specs.Frames.{frame_of_bytes, bytes_of_frame, command_in, answer_in, frame_of_command, frame_of_answer};
 ghost use Rattle.protocol.specs.Frames.{command_of, answer_of_bytes, bytes_of_command, bytes_of_answer};
+ghost use Rattle.protocol.specs.Numbers.{number_of_reason};
 ghost use Rattle.protocol.specs.Respond.{refused as refused_with, value_to};
 
 use geometry::Record;
 
 mod numbers;
+
+pub use numbers::{Operation, Reason};
 
 // A frame as it is sent: four bytes and a number.
 #[derive(Clone, Copy, PartialEq, Eq)]
@@ -166,11 +169,11 @@ impl Answer {
     }
 
     // The answer to a refused command.
-    pub fn refused(c: Command, status: u8) -> Self
-        ensures { result ≡ refused_with status c }
+    pub fn refused(c: Command, reason: Reason) -> Self
+        ensures { result ≡ refused_with (number_of_reason reason) c }
     {
         Answer {
-            status,
+            status: reason as u8,
             name: c.name,
             symbol: 0,
             depth: 0,

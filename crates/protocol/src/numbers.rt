@@ -1,89 +1,99 @@
-// The codes and statuses, numbered and in the order of RULES, Commands and Statuses.
+// What commands ask for and why they are refused, numbered and in the order of RULES, Commands and Statuses.
 ghost use Rattle.std.specs.Prelude.{◌≡◌};
 ghost use Rattle.protocol.specs.Commands.{all_codes};
+ghost use Rattle.protocol.specs.Numbers.{OfCode};
 ghost use Rattle.protocol.specs.Refusals.{all_statuses};
 
-use crate::{Answer, Command};
+// What a command asks for; its number is the command's code.
+#[derive(Clone, Copy, PartialEq, Eq)]
+pub enum Operation {
+    Open = 0x01,
+    Close = 0x02,
+    Insert = 0x03,
+    Delete = 0x04,
+    Access = 0x05,
+    Rank = 0x06,
+    Select = 0x07,
+    Length = 0x08,
+    Unpromised = 0x09,
+}
 
-impl Command {
-    pub const OPEN: u8 = 0x01;
-
-    pub const CLOSE: u8 = 0x02;
-
-    pub const INSERT: u8 = 0x03;
-
-    pub const DELETE: u8 = 0x04;
-
-    pub const ACCESS: u8 = 0x05;
-
-    pub const RANK: u8 = 0x06;
-
-    pub const SELECT: u8 = 0x07;
-
-    pub const LENGTH: u8 = 0x08;
-
-    pub const UNPROMISED: u8 = 0x09;
-
+impl Operation {
     // All of these, so that a contract can say that they are the table's.
     fn codes() -> [u8; 9]
         ensures { result ≡ all_codes }
     {
         [
-            Command::OPEN,
-            Command::CLOSE,
-            Command::INSERT,
-            Command::DELETE,
-            Command::ACCESS,
-            Command::RANK,
-            Command::SELECT,
-            Command::LENGTH,
-            Command::UNPROMISED,
+            Operation::Open as u8,
+            Operation::Close as u8,
+            Operation::Insert as u8,
+            Operation::Delete as u8,
+            Operation::Access as u8,
+            Operation::Rank as u8,
+            Operation::Select as u8,
+            Operation::Length as u8,
+            Operation::Unpromised as u8,
         ]
     }
 }
 
-impl Answer {
-    pub const UNKNOWN_CODE: u8 = 1;
+impl TryFrom<u8> for Operation {
+    type Error = Reason;
 
-    pub const NAME_NOT_ALLOWED: u8 = 2;
+    ghost try_from_gives = { OfCode };
 
-    pub const UNUSED_NOT_ZERO: u8 = 3;
+    // The operation with this code.
+    fn try_from(code: u8) -> Result<Self, Reason> {
+        match code {
+            0x01 => Ok(Operation::Open),
+            0x02 => Ok(Operation::Close),
+            0x03 => Ok(Operation::Insert),
+            0x04 => Ok(Operation::Delete),
+            0x05 => Ok(Operation::Access),
+            0x06 => Ok(Operation::Rank),
+            0x07 => Ok(Operation::Select),
+            0x08 => Ok(Operation::Length),
+            0x09 => Ok(Operation::Unpromised),
+            _ => Err(Reason::UnknownCode),
+        }
+    }
+}
 
-    pub const ALREADY_OPEN: u8 = 4;
+// Why a command is refused; its number is the answer's status.
+#[derive(Clone, Copy, PartialEq, Eq)]
+pub enum Reason {
+    UnknownCode = 1,
+    NameNotAllowed = 2,
+    UnusedNotZero = 3,
+    AlreadyOpen = 4,
+    NotOpen = 5,
+    AlphabetNotAllowed = 6,
+    NoShares = 7,
+    SymbolOutside = 8,
+    PlaceOutside = 9,
+    OrdinalOutside = 10,
+    Full = 11,
+    SharesExceeded = 12,
+}
 
-    pub const NOT_OPEN: u8 = 5;
-
-    pub const ALPHABET_NOT_ALLOWED: u8 = 6;
-
-    pub const NO_SHARES: u8 = 7;
-
-    pub const SYMBOL_OUTSIDE: u8 = 8;
-
-    pub const PLACE_OUTSIDE: u8 = 9;
-
-    pub const ORDINAL_OUTSIDE: u8 = 10;
-
-    pub const FULL: u8 = 11;
-
-    pub const SHARES_EXCEEDED: u8 = 12;
-
+impl Reason {
     // All of these, so that a contract can say that they are the table's.
     fn statuses() -> [u8; 12]
         ensures { result ≡ all_statuses }
     {
         [
-            Answer::UNKNOWN_CODE,
-            Answer::NAME_NOT_ALLOWED,
-            Answer::UNUSED_NOT_ZERO,
-            Answer::ALREADY_OPEN,
-            Answer::NOT_OPEN,
-            Answer::ALPHABET_NOT_ALLOWED,
-            Answer::NO_SHARES,
-            Answer::SYMBOL_OUTSIDE,
-            Answer::PLACE_OUTSIDE,
-            Answer::ORDINAL_OUTSIDE,
-            Answer::FULL,
-            Answer::SHARES_EXCEEDED,
+            Reason::UnknownCode as u8,
+            Reason::NameNotAllowed as u8,
+            Reason::UnusedNotZero as u8,
+            Reason::AlreadyOpen as u8,
+            Reason::NotOpen as u8,
+            Reason::AlphabetNotAllowed as u8,
+            Reason::NoShares as u8,
+            Reason::SymbolOutside as u8,
+            Reason::PlaceOutside as u8,
+            Reason::OrdinalOutside as u8,
+            Reason::Full as u8,
+            Reason::SharesExceeded as u8,
         ]
     }
 }

@@ -1,4 +1,2 @@
 pub mod LastColumn
-pub mod Passes
-pub mod Rules
 pub mod Texts

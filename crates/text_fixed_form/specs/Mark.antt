@@ -1,5 +1,8 @@
 -- The mark of a fixed-form line of Fortran (RULES, Marks of a line). A line is a list of bytes; columns count from 1.
 use Rattle.std.specs.Prelude.{Bool, true, false, cond, not, ◌&&◌, ◌||◌, List, [], ◌∷◌, map, ℕ, ◌+◌, ◌-◌, leb, ltb, eqb, get_or, take, drop}
+use Rattle.std.specs.List.{list_all, list_any, filter}
+use Rattle.text_fixed_form.specs.declared.LineMark.{LineMark}
+use Rattle.text_fixed_form.specs.declared.LineMark.TheVariants.{Other, Comment, Continuation, StorageShared, Common, Outside}
 use Rattle.geometry.specs.Limits.{last_column, continuation_column}
 
 -- The marks.
@@ -28,6 +31,15 @@ common = 4
 abbrev pub other : ℕ
 other = 0
 
+-- the number that stands for what a line is
+abbrev pub number_of : LineMark → ℕ
+number_of Other = other
+number_of Comment = comment
+number_of Continuation = continuation
+number_of StorageShared = storage_shared
+number_of Common = common
+number_of Outside = outside
+
 -- Columns.
 
 -- the byte of a blank
@@ -44,8 +56,7 @@ column number columns = get_or columns (number - 1) blank
 
 -- every column is blank or missing
 unfoldable pub all_blank : List ℕ → Bool
-all_blank [] = true
-all_blank (byte ∷ columns) = eqb byte blank && all_blank columns
+all_blank columns = list_all (λ byte. eqb byte blank) columns
 
 -- Bytes outside 32 to 126.
 
@@ -55,8 +66,7 @@ is_outside byte = ltb byte 32 || ltb 126 byte
 
 -- some column's byte is outside
 unfoldable pub any_outside : List ℕ → Bool
-any_outside [] = false
-any_outside (byte ∷ columns) = is_outside byte || any_outside columns
+any_outside columns = list_any is_outside columns
 
 -- Comments.
 
@@ -83,8 +93,7 @@ is_continuation columns =
 
 -- the columns with their blanks taken out
 unfoldable pub without_blanks : List ℕ → List ℕ
-without_blanks [] = []
-without_blanks (byte ∷ columns) = cond (eqb byte blank) (without_blanks columns) (byte ∷ without_blanks columns)
+without_blanks columns = filter (λ byte. not (eqb byte blank)) columns
 
 -- a letter a to z (97 to 122) as A to Z (65 to 90); any other byte as it is
 abbrev pub upper_case : ℕ → ℕ

@@ -9,11 +9,7 @@ pub const BLANK: u8 = b' ';
 pub fn columns_after(line: &[u8], count: usize) -> &[u8]
     ensures { result.now ≡ drop count line.now }
 {
-    let length = line.len();
-    if length <= count {
-        return &line[length..];
-    }
-    &line[count..]
+    line.get(count..).unwrap_or(&[])
 }
 
 // The byte in the column `number`.
@@ -21,49 +17,29 @@ pub fn column(line: &[u8], number: usize) -> u8
     requires { 1 ≤ number }
     ensures { result ≡ column number line.now }
 {
-    let at = number - 1;
-    if line.len() <= at {
-        return BLANK;
-    }
-    line[at]
+    line.get(number - 1).copied().unwrap_or(BLANK)
 }
 
 // Whether every column is blank.
+#[tactic(auto, unfolding(crate::specs::Mark::all_blank))]
 pub fn all_blank(line: &[u8]) -> bool
     ensures { result ≡ all_blank line.now }
 {
-    let mut i = 0;
-    while i < line.len() {
-        if line[i] != BLANK {
-            return false;
-        }
-        i += 1;
-    }
-    true
+    line.iter().all(|byte| *byte == BLANK)
 }
 
-// Whether a column has a byte that no line may have. Few lines do, so the loop doesn't stop at one:
+// Whether a column has a byte that no line may have. Few lines do, so this is no `any`, which stops at one:
 // then the compiler takes many columns at a time.
 pub fn any_outside(line: &[u8]) -> bool
     ensures { result ≡ any_outside line.now }
 {
-    let mut found = false;
-    let mut i = 0;
-    while i < line.len() {
-        if is_outside(line[i]) {
-            found = true;
-        }
-        i += 1;
-    }
-    found
+    line.iter()
+        .fold(false, |found, byte| found | is_outside(*byte))
 }
 
 // Whether no line may have `byte`: it is neither a blank nor a printed character of ASCII.
 fn is_outside(byte: u8) -> bool
     ensures { result ≡ is_outside byte }
 {
-    if byte < 32 {
-        return true;
-    }
-    126 < byte
+    !matches!(byte, b' '..=b'~')
 }

@@ -2,9 +2,9 @@
 #![tactic(auto)]
 
 ghost use Rattle.std.specs.Prelude.{◌≡◌};
-ghost use Rattle.text_fixed_form.specs.Mark.{mark_of, first_that_fits, rules, is_comment, is_continuation, opens_comment, continues};
+ghost use Rattle.text_fixed_form.specs.Mark.{mark_of, number_of, first_that_fits, rules, is_comment, is_continuation, opens_comment, continues};
 
-use columns::{all_blank, any_outside, column, columns_after};
+use columns::{BLANK, all_blank, any_outside, column, columns_after};
 use geometry::Record;
 use text_lines::first_bytes;
 use words::begins;
@@ -12,86 +12,78 @@ use words::begins;
 mod columns;
 mod words;
 
-// The marks, in the order of the rules.
-// a line with a byte that no line may have
-const OUTSIDE: u8 = 15;
-// a comment
-const COMMENT: u8 = 1;
-// the continuation of the line before
-const CONTINUATION: u8 = 2;
-// a statement that lets names share storage
-const STORAGE_SHARED: u8 = 3;
-// a statement of common storage
-const COMMON: u8 = 4;
-// any other line
-const OTHER: u8 = 0;
+// What a line is, by its mark.
+#[derive(Clone, Copy)]
+enum LineMark {
+    // any other line
+    Other = 0,
+    Comment = 1,
+    // of the line before
+    Continuation = 2,
+    // a statement that lets names share storage
+    StorageShared = 3,
+    // a statement of common storage
+    Common = 4,
+    // a line with a byte that no line may have
+    Outside = 15,
+}
 
 // The mark of `line`, which comes without its line end and may have any length and any bytes.
+#[tactic(auto, unfolding(crate::specs::Mark::mark_of))]
 pub fn mark(line: &[u8]) -> u8
     ensures { result ≡ mark_of line.now }
 {
-    mark_of_card(first_bytes(line, Record::LAST_COLUMN))
+    mark_of_card(first_bytes(line, Record::LAST_COLUMN)) as u8
 }
 
 // The mark of a line whose columns are all read: that of the first rule that fits.
-fn mark_of_card(card: &[u8]) -> u8
-    ensures { result ≡ first_that_fits (rules card.now) }
+fn mark_of_card(card: &[u8]) -> LineMark
+    ensures { number_of result ≡ first_that_fits (rules card.now) }
 {
     if any_outside(card) {
-        return OUTSIDE;
+        return LineMark::Outside;
     }
     if is_comment(card) {
-        return COMMENT;
+        return LineMark::Comment;
     }
     if is_continuation(card) {
-        return CONTINUATION;
+        return LineMark::Continuation;
     }
     let statement = columns_after(card, Record::CONTINUATION_COLUMN);
     if begins(b"EQUIVALENCE(", statement) {
-        return STORAGE_SHARED;
+        return LineMark::StorageShared;
     }
     if begins(b"COMMON", statement) {
-        return COMMON;
+        return LineMark::Common;
     }
-    OTHER
+    LineMark::Other
 }
 
 // Whether the line is a comment: all blank, or by its first column.
 fn is_comment(card: &[u8]) -> bool
     ensures { result ≡ is_comment card.now }
 {
-    if all_blank(card) {
-        return true;
-    }
-    opens_comment(column(card, 1))
+    all_blank(card) || opens_comment(column(card, 1))
 }
 
 // Whether `byte`, in column 1, makes the line a comment.
 fn opens_comment(byte: u8) -> bool
     ensures { result ≡ opens_comment byte }
 {
-    if byte == b'C' {
-        return true;
-    }
-    if byte == b'c' {
-        return true;
-    }
-    byte == b'*'
+    matches!(byte, b'C' | b'c' | b'*')
 }
 
 // Whether the line is a continuation: blank before the continuation column, and by that column.
 fn is_continuation(card: &[u8]) -> bool
     ensures { result ≡ is_continuation card.now }
 {
-    if all_blank(first_bytes(card, Record::CONTINUATION_COLUMN - 1)) {
-        return continues(column(card, Record::CONTINUATION_COLUMN));
-    }
-    false
+    all_blank(first_bytes(card, Record::CONTINUATION_COLUMN - 1))
+        && continues(column(card, Record::CONTINUATION_COLUMN))
 }
 
 // Whether `byte`, in the continuation column, makes the line a continuation.
 fn continues(byte: u8) -> bool
     ensures { result ≡ continues byte }
 {
-    byte != columns::BLANK
+    byte != BLANK
 }

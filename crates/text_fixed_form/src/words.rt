@@ -8,32 +8,24 @@ use crate::columns::BLANK;
 pub fn begins(word: &[u8], line: &[u8]) -> bool
     ensures { result ≡ begins word.now (text line.now) }
 {
-    let mut matched = 0;
-    let mut i = 0;
-    while i < line.len() {
-        if line[i] != BLANK {
-            if matched == word.len() {
+    let mut left = word;
+    for &byte in line {
+        if byte != BLANK {
+            let [letter, rest @ ..] = left else {
                 return true;
-            }
-            if upper_case(line[i]) != word[matched] {
+            };
+            if upper_case(byte) != *letter {
                 return false;
             }
-            matched += 1;
+            left = rest;
         }
-        i += 1;
     }
-    matched == word.len()
+    left.is_empty()
 }
 
 // A small letter as its capital, any other byte as it is.
 fn upper_case(byte: u8) -> u8
     ensures { result ≡ upper_case byte }
 {
-    if byte < b'a' {
-        return byte;
-    }
-    if b'z' < byte {
-        return byte;
-    }
-    byte - b'a' + b'A'
+    byte.to_ascii_uppercase()
 }

@@ -1,7 +1,7 @@
 -- Numbers and their digits: one law for every number of digits. A number is read back from its digits by induction on how many
 -- there are, the last one first; what fits goes by the powers of sixteen.
 use mathlib.Core.Path.{◌≡◌, refl, ap, sym, ◌∙◌}
-use mathlib.Core.Bool.{Bool, true, false, ◌&&◌, and_assoc}
+use mathlib.Core.Bool.{Bool, true, false, ◌&&◌}
 use mathlib.Core.List.{List, [], ◌∷◌, ◌++◌, append-nil, append_assoc}
 use Prim.Native.Nat.{ℕ, zero, suc, ◌+◌, ◌*◌, ◌/◌, ◌%◌, ◌^◌, ◌≤◌, ◌<◌}
 use native.Mathlib.Nat.{pow-succ', pow-le-pow_right, mul-le-mul_right, mul_left_comm, mul_assoc, add-suc, add-zero, mul-one}
@@ -11,6 +11,8 @@ use lib.Dec.{ltb}
 use lib.ListN.{length, get_or, drop, length-append}
 use lib.Seq.{drop-cons}
 use borrow.Author.Tests.{lt-ltb, ltb-true}
+use Rattle.std.proofs.lemmas.Bool.{and_parts}
+use Rattle.std.proofs.lemmas.List.Folds.{list_all-append}
 use Rattle.text_hex.specs.Digits.{value_of, digit_of, digits_of, all_digits, number_after, number_of_digits}
 use Rattle.text_hex.proofs.Rules.{values-at}
 
@@ -20,10 +22,6 @@ unfolding value_of digit_of
 value-of-digit value below = sym (values-at (λ d. value_of (digit_of d)) 16 value below) ∙ values-at (λ d. d) 16 value below
 
 -- one more byte is read
-pub all-digits-from : (bytes : List ℕ) (i : ℕ) → i < length bytes
-    → all_digits (drop i bytes) ≡ (ltb (value_of (get_or bytes i 0)) 16 && all_digits (drop (i + 1) bytes))
-all-digits-from bytes i below = rw (add-one, drop-cons bytes i 0)
-
 pub number-from : (above : ℕ) (bytes : List ℕ) (i : ℕ) → i < length bytes
     → number_after above (drop i bytes) ≡ number_after (above * 16 + value_of (get_or bytes i 0)) (drop (i + 1) bytes)
 number-from above bytes i below = rw (add-one, drop-cons bytes i 0)
@@ -33,21 +31,12 @@ pub number-grows : (above : ℕ) (bytes : List ℕ) → above ≤ number_after a
 number-grows above [] = omega arith
 number-grows above (byte ∷ bytes) = omega (arith, number-grows (above * 16 + value_of byte) bytes)
 
--- both parts of a test
-pub first-of-both : (a b : Bool) → (a && b) ≡ true → a ≡ true
-first-of-both true b both = refl
-first-of-both false b both = both
-
-pub second-of-both : (a b : Bool) → (a && b) ≡ true → b ≡ true
-second-of-both true b both = both
-second-of-both false b both = absurd (let z : ◌≡◌ {A = ℕ} 0 1 = cc in omega arith)
-
 pub number-after-fits : (above : ℕ) (bytes : List ℕ) → all_digits bytes ≡ true → number_after above bytes < (above + 1) * 16 ^ length bytes
 number-after-fits above [] digits = omega (arith, mul-one (above + 1))
 number-after-fits above (byte ∷ bytes) digits =
-    let value : value_of byte < 16 = ltb-true (value_of byte) 16 (first-of-both (ltb (value_of byte) 16) (all_digits bytes) digits) in
+    let value : value_of byte < 16 = ltb-true (value_of byte) 16 (and_parts (ltb (value_of byte) 16) (all_digits bytes) digits).0 in
     let rest : number_after (above * 16 + value_of byte) bytes < (above * 16 + value_of byte + 1) * 16 ^ length bytes =
-    number-after-fits (above * 16 + value_of byte) bytes (second-of-both (ltb (value_of byte) 16) (all_digits bytes) digits)
+    number-after-fits (above * 16 + value_of byte) bytes (and_parts (ltb (value_of byte) 16) (all_digits bytes) digits).1
     in
     let step : (above * 16 + value_of byte + 1) * 16 ^ length bytes ≤ ((above + 1) * 16) * 16 ^ length bytes =
     mul-le-mul_right (16 ^ length bytes) (omega arith)
@@ -80,17 +69,12 @@ number-of-digits (suc many) number below =
     number_after_append 0 (digits_of many (number / 16)) (digit_of (number % 16) ∷ []) ∙
     omega (arith, above, value-of-digit (number % 16) (omega arith))
 
-pub all-digits-append : (xs ys : List ℕ) → all_digits (xs ++ ys) ≡ (all_digits xs && all_digits ys)
-all-digits-append [] ys = refl
-all-digits-append (x ∷ xs) ys =
-    ap (λ rest. ltb (value_of x) 16 && rest) (all-digits-append xs ys) ∙ sym (and_assoc (ltb (value_of x) 16) (all_digits xs) (all_digits ys))
-
 -- digits that were written are digits
 pub digits-are-digits : (many number : ℕ) → all_digits (digits_of many number) ≡ true
 unfolding digits_of
 digits-are-digits zero number = refl
 digits-are-digits (suc many) number =
-    all-digits-append (digits_of many (number / 16)) (digit_of (number % 16) ∷ []) ∙
+    list_all-append (λ byte. ltb (value_of byte) 16) (digits_of many (number / 16)) (digit_of (number % 16) ∷ []) ∙
     rw (digits-are-digits many (number / 16), value-of-digit (number % 16) (omega arith), lt-ltb (number % 16) 16 (omega arith))
 
 -- two numbers side by side are written one after the other

@@ -11,24 +11,27 @@ use lib.ListN.{length, take, drop, length-take}
 use lib.Seq.{take_at, drop_at, take_all, drop-drop}
 use mir.Syntax.{w8}
 use mir.Val.{Fits}
+use Rattle.std.proofs.Common.{Some, None}
+use Rattle.std.proofs.lemmas.Bool.{and_parts}
+use Rattle.std.proofs.lemmas.List.Folds.{list_all-append}
 use Rattle.text_hex.specs.Digits.{value_of, all_digits, number_of_digits, digits_of}
 use Rattle.text_hex.specs.Lines.{line_digits, spelled, frame_of, numbers_of, digits_of_frame}
-use Rattle.text_hex.specs.declared.read.Reading.TheVariants.{Frame, Bad}
+use Rattle.protocol.specs.declared.Frame.{Frame}
 use Rattle.text_hex.proofs.Written.{length-of-frame}
-use Rattle.text_hex.proofs.Digits.{first-of-both, second-of-both, all-digits-append, digits-are-digits, length-of-digits, number_fits, number-of-digits}
+use Rattle.text_hex.proofs.Digits.{digits-are-digits, length-of-digits, number_fits, number-of-digits}
 
 -- digits stay digits in a part of the line
 all-digits-drop : (many : ℕ) (bytes : List ℕ) → all_digits bytes ≡ true → all_digits (drop many bytes) ≡ true
 all-digits-drop zero bytes digits = digits
 all-digits-drop (suc many) [] digits = refl
-all-digits-drop (suc many) (byte ∷ bytes) digits = all-digits-drop many bytes (second-of-both (ltb (value_of byte) 16) (all_digits bytes) digits)
+all-digits-drop (suc many) (byte ∷ bytes) digits = all-digits-drop many bytes (and_parts (ltb (value_of byte) 16) (all_digits bytes) digits).1
 
 all-digits-take : (many : ℕ) (bytes : List ℕ) → all_digits bytes ≡ true → all_digits (take many bytes) ≡ true
 all-digits-take zero bytes digits = refl
 all-digits-take (suc many) [] digits = refl
 all-digits-take (suc many) (byte ∷ bytes) digits =
-    rw (first-of-both (ltb (value_of byte) 16) (all_digits bytes) digits)
-    (all-digits-take many bytes (second-of-both (ltb (value_of byte) 16) (all_digits bytes) digits))
+    rw (and_parts (ltb (value_of byte) 16) (all_digits bytes) digits).0
+    (all-digits-take many bytes (and_parts (ltb (value_of byte) 16) (all_digits bytes) digits).1)
 
 pub all-digits-part : (from many : ℕ) (bytes : List ℕ) → all_digits bytes ≡ true → all_digits (take many (drop from bytes)) ≡ true
 all-digits-part from many bytes digits = all-digits-take many (drop from bytes) (all-digits-drop from bytes digits)
@@ -49,15 +52,15 @@ byte_fits line at byte is digits =
     }
 
 -- What a line holds, by the two tests.
-pub frame-of-other-length : (line : List ℕ) → (length line ≡ line_digits → ⊥) → Bad ≡ frame_of line
+pub frame-of-other-length : (line : List ℕ) → (length line ≡ line_digits → ⊥) → None ≡ frame_of line
 unfolding frame_of
 frame-of-other-length line other = rw (ne_eqb (length line) line_digits other)
 
-pub frame-of-no-digits : (line : List ℕ) → length line ≡ line_digits → all_digits line ≡ false → Bad ≡ frame_of line
+pub frame-of-no-digits : (line : List ℕ) → length line ≡ line_digits → all_digits line ≡ false → None ≡ frame_of line
 unfolding frame_of
 frame-of-no-digits line long none = rw (eq-eqb (length line) line_digits long, none)
 
-pub frame-of-digits : (line : List ℕ) → length line ≡ line_digits → all_digits line ≡ true → spelled line ≡ frame_of line
+pub frame-of-digits : (line : List ℕ) → length line ≡ line_digits → all_digits line ≡ true → Some (spelled line) ≡ frame_of line
 unfolding frame_of
 frame-of-digits line long digits = rw (eq-eqb (length line) line_digits long, digits)
 
@@ -66,11 +69,16 @@ pub digits-told : (line : List ℕ) (answer : Bool) → answer ≡ all_digits li
 digits-told line answer is none = sym is ∙ not-false answer none
 
 -- the numbers that were read, each of its digits, are the frame
-pub frame-read : (line : List ℕ) (answer : Bool) (code name symbol fourth number : ℕ) → length line ≡ line_digits → answer ≡ all_digits line → not answer ≡ false
-    → code ≡ number_of_digits (take 2 line) → name ≡ number_of_digits (take 2 (drop 2 line)) → symbol ≡ number_of_digits (take 2 (drop 4 line))
-    → fourth ≡ number_of_digits (take 2 (drop 6 line)) → number ≡ number_of_digits (take 8 (drop 8 line)) → Frame code name symbol fourth number ≡ frame_of line
+abbrev frame-with : ℕ → ℕ → ℕ → ℕ → ℕ → Frame
+frame-with first second third fourth number = record { first = first; second = second; third = third; fourth = fourth; number = number }
+
+pub frame-read : (line : List ℕ) (answer : Bool) (first second third fourth number : ℕ) → length line ≡ line_digits → answer ≡ all_digits line → not answer ≡ false
+    → first ≡ number_of_digits (take 2 line) → second ≡ number_of_digits (take 2 (drop 2 line)) → third ≡ number_of_digits (take 2 (drop 4 line))
+    → fourth ≡ number_of_digits (take 2 (drop 6 line)) → number ≡ number_of_digits (take 8 (drop 8 line))
+    → Some (frame-with first second third fourth number) ≡ frame_of line
 unfolding spelled
-frame-read line answer code name symbol fourth number long is none a b c d n = rw (a, b, c, d, n) (frame-of-digits line long (digits-told line answer is none))
+frame-read line answer first second third fourth number long is none a b c d n =
+    rw (a, b, c, d, n) (frame-of-digits line long (digits-told line answer is none))
 
 -- digits in front of others are read back, and the others stand behind them
 read-in-front : (many number : ℕ) (rest : List ℕ) → number < 16 ^ many → number_of_digits (take many (digits_of many number ++ rest)) ≡ number
@@ -82,41 +90,42 @@ drop-in-front many number rest = drop_at (digits_of many number) rest many (leng
 drop-two-more : (many : ℕ) (line number-rest : List ℕ) (number : ℕ) → drop many line ≡ digits_of 2 number ++ number-rest → drop (many + 2) line ≡ number-rest
 drop-two-more many line rest number is = sym (drop-drop 2 many line) ∙ ap (drop 2) is ∙ drop-in-front 2 number rest
 
-module _ (first second third fourth number : ℕ) (a : first < 256) (b : second < 256) (c : third < 256) (d : fourth < 256) (n : number < 2 ^ 32) where
-  spelled-again : spelled (digits_of_frame first second third fourth number) ≡ Frame first second third fourth number
+-- a frame whose fields fit its bytes
+module _ (frame : Frame) (a : frame.first < 256) (b : frame.second < 256) (c : frame.third < 256) (d : frame.fourth < 256) (n : frame.number < 2 ^ 32) where
+  spelled-again : spelled (digits_of_frame frame) ≡ frame
   unfolding spelled digits_of_frame
   spelled-again =
-      let line = digits_of_frame first second third fourth number in
-      let number_at : List ℕ = digits_of 8 number in
-      let fourth_at : List ℕ = digits_of 2 fourth ++ number_at in
-      let third_at : List ℕ = digits_of 2 third ++ fourth_at in
-      let second_at : List ℕ = digits_of 2 second ++ third_at in
-      let two : drop 2 line ≡ second_at = drop-in-front 2 first second_at in
-      let four : drop 4 line ≡ third_at = drop-two-more 2 line third_at second two in
-      let six : drop 6 line ≡ fourth_at = drop-two-more 4 line fourth_at third four in
-      let eight : drop 8 line ≡ number_at = drop-two-more 6 line number_at fourth six in
+      let line = digits_of_frame frame in
+      let number_at : List ℕ = digits_of 8 frame.number in
+      let fourth_at : List ℕ = digits_of 2 frame.fourth ++ number_at in
+      let third_at : List ℕ = digits_of 2 frame.third ++ fourth_at in
+      let second_at : List ℕ = digits_of 2 frame.second ++ third_at in
+      let two : drop 2 line ≡ second_at = drop-in-front 2 frame.first second_at in
+      let four : drop 4 line ≡ third_at = drop-two-more 2 line third_at frame.second two in
+      let six : drop 6 line ≡ fourth_at = drop-two-more 4 line fourth_at frame.third four in
+      let eight : drop 8 line ≡ number_at = drop-two-more 6 line number_at frame.fourth six in
       rw (
         two,
         four,
         six,
         eight,
-        read-in-front 2 first second_at a,
-        read-in-front 2 second third_at b,
-        read-in-front 2 third fourth_at c,
-        read-in-front 2 fourth number_at d,
-        take_all 8 number_at (omega (arith, length-of-digits 8 number)),
-        number-of-digits 8 number n,
+        read-in-front 2 frame.first second_at a,
+        read-in-front 2 frame.second third_at b,
+        read-in-front 2 frame.third fourth_at c,
+        read-in-front 2 frame.fourth number_at d,
+        take_all 8 number_at (omega (arith, length-of-digits 8 frame.number)),
+        number-of-digits 8 frame.number n,
       )
 
-  all-digits-of-frame : all_digits (digits_of_frame first second third fourth number) ≡ true
+  all-digits-of-frame : all_digits (digits_of_frame frame) ≡ true
   unfolding digits_of_frame
-  all-digits-of-frame = simp (all-digits-append, digits-are-digits)
+  all-digits-of-frame = simp (list_all-append, digits-are-digits)
 
   -- reading what was written gives the frame back
-  pub frame-of-written : frame_of (digits_of_frame first second third fourth number) ≡ Frame first second third fourth number
+  pub frame-of-written : frame_of (digits_of_frame frame) ≡ Some frame
   frame-of-written =
-      sym (frame-of-digits (digits_of_frame first second third fourth number) (length-of-frame first second third fourth number) all-digits-of-frame) ∙ spelled-again
+      sym (frame-of-digits (digits_of_frame frame) (length-of-frame frame) all-digits-of-frame) ∙ ap Some spelled-again
 
   -- and so its numbers
-  pub numbers-of-written : numbers_of (frame_of (digits_of_frame first second third fourth number)) ≡ first ∷ second ∷ third ∷ fourth ∷ number ∷ []
+  pub numbers-of-written : numbers_of (frame_of (digits_of_frame frame)) ≡ frame.first ∷ frame.second ∷ frame.third ∷ frame.fourth ∷ frame.number ∷ []
   numbers-of-written = ap numbers_of frame-of-written

@@ -1,6 +1,6 @@
 -- What the writer leaves in the buffer. Its loop puts the last digit first: the digits still to come, and the buffer from there on,
 -- are always the whole number's digits and the buffer behind them.
-use mathlib.Core.Path.{◌≡◌, refl, sym, ap, ap₂, ◌∙◌}
+use mathlib.Core.Path.{◌≡◌, sym, ap, ap₂, ◌∙◌}
 use mathlib.Core.List.{List, [], ◌∷◌, ◌++◌, append_assoc}
 use Prim.Native.Nat.{ℕ, zero, suc, ◌+◌, ◌-◌, ◌*◌, ◌/◌, ◌%◌, ◌^◌, ◌≤◌, ◌<◌}
 use native.Mathlib.Nat.{add-suc, add-zero}
@@ -8,6 +8,7 @@ use native.Mathlib.Omega.{arith}
 use native.Mathlib.Numerals.{sub-one}
 use lib.ListN.{length, take, drop, set, length-set, length-append, take-append-drop}
 use lib.Seq.{drop-cons, take-take, take-set-le, drop-set-lt, get_or-set_same, take_all, paste, paste-suc, take-append-le, append_snoc, get_or-append_seam}
+use Rattle.protocol.specs.declared.Frame.{Frame}
 use Rattle.text_hex.specs.Digits.{digit_of, digits_of}
 use Rattle.text_hex.specs.Lines.{digits_of_frame, line_digits, line_of, line_size}
 use Rattle.text_hex.proofs.Digits.{length-of-digits, digits-of-both}
@@ -20,9 +21,6 @@ pub record Putting (many : ℕ) (before : List ℕ) (at number : ℕ) (out : Lis
   pub back : digits_of left rest ++ drop (at + left) out ≡ digits_of many number ++ drop (at + many) before
 
 module _ (many : ℕ) (before : List ℕ) (at number : ℕ) (room : at + many ≤ length before) where
-  pub putting-none : Putting many before at number before many number
-  putting-none = record { few = omega arith; long = refl; front = refl; back = refl }
-
   put-at : (out : List ℕ) (k rest digit : ℕ) → digit ≡ digit_of (rest % 16) → at + k < length out
       → digits_of k (rest / 16) ++ drop (at + k) (set out (at + k) digit) ≡ digits_of (suc k) rest ++ drop (suc (at + k)) out
   unfolding digits_of
@@ -68,38 +66,40 @@ put-after before at put byte room =
     (sym (get_or-append_seam put byte [] 0))
     ∙ paste-suc before at (put ++ (byte ∷ [])) (length put) 0 room (simp length-append (omega arith))
 
--- four bytes and a number, as one number, have the frame's digits
-pub digits-of-frame : (first second third fourth number : ℕ) → first < 256 → second < 256 → third < 256 → fourth < 256 → number < 16 ^ 8
-    → digits_of line_digits ((((first * 256 + second) * 256 + third) * 256 + fourth) * 4294967296 + number) ≡ digits_of_frame first second third fourth number
+-- a frame as one number, its four bytes in front of its own number
+abbrev pub one-number : Frame → ℕ
+one-number frame = (((frame.first * 256 + frame.second) * 256 + frame.third) * 256 + frame.fourth) * 4294967296 + frame.number
+
+-- that number has the frame's digits
+pub digits-of-frame : (frame : Frame) → frame.second < 256 → frame.third < 256 → frame.fourth < 256 → frame.number < 16 ^ 8
+    → digits_of line_digits (one-number frame) ≡ digits_of_frame frame
 unfolding digits_of_frame
-digits-of-frame first second third fourth number a b c d n =
-    digits-of-both 8 8 (((first * 256 + second) * 256 + third) * 256 + fourth) number n
-    ∙ ap (λ l. l ++ digits_of 8 number)
-    (digits-of-both 6 2 ((first * 256 + second) * 256 + third) fourth d
-    ∙ ap (λ l. l ++ digits_of 2 fourth)
-    (digits-of-both 4 2 (first * 256 + second) third c
-    ∙ ap (λ l. l ++ digits_of 2 third) (digits-of-both 2 2 first second b)))
+digits-of-frame frame b c d n =
+    digits-of-both 8 8 (((frame.first * 256 + frame.second) * 256 + frame.third) * 256 + frame.fourth) frame.number n
+    ∙ ap (λ l. l ++ digits_of 8 frame.number)
+    (digits-of-both 6 2 ((frame.first * 256 + frame.second) * 256 + frame.third) frame.fourth d
+    ∙ ap (λ l. l ++ digits_of 2 frame.fourth)
+    (digits-of-both 4 2 (frame.first * 256 + frame.second) frame.third c
+    ∙ ap (λ l. l ++ digits_of 2 frame.third) (digits-of-both 2 2 frame.first frame.second b)))
     ∙ simp append_assoc
 
-pub length-of-frame : (first second third fourth number : ℕ) → length (digits_of_frame first second third fourth number) ≡ line_digits
+pub length-of-frame : (frame : Frame) → length (digits_of_frame frame) ≡ line_digits
 unfolding digits_of_frame
-length-of-frame first second third fourth number = simp (length-append, length-of-digits)
+length-of-frame frame = simp (length-append, length-of-digits)
 
 -- the digits of the one number and a line feed behind them are the line
-pub line-put : (before : List ℕ) (at first second third fourth number : ℕ) (out : List ℕ) → first < 256 → second < 256 → third < 256 → fourth < 256 → number < 16 ^ 8
-    → at + line_size ≤ length before
-    → out ≡ paste before at (digits_of line_digits ((((first * 256 + second) * 256 + third) * 256 + fourth) * 4294967296 + number)) line_digits
-    → set out (at + line_digits) 10 ≡ paste before at (line_of first second third fourth number) line_size
+pub line-put : (before : List ℕ) (at number : ℕ) (frame : Frame) (out : List ℕ) → frame.second < 256 → frame.third < 256 → frame.fourth < 256 → frame.number < 16 ^ 8
+    → at + line_size ≤ length before → number ≡ one-number frame → out ≡ paste before at (digits_of line_digits number) line_digits
+    → set out (at + line_digits) 10 ≡ paste before at (line_of frame) line_size
 unfolding line_of
-line-put before at first second third fourth number out a b c d n room digits =
-    let frame = digits_of_frame first second third fourth number in
-    let long : length frame ≡ line_digits = length-of-frame first second third fourth number in
-    let put : set (paste before at frame (length frame)) (at + length frame) 10 ≡ paste before at (frame ++ (10 ∷ [])) (suc (length frame)) =
-    put-after before at frame 10 (omega arith)
+line-put before at number frame out b c d n room is digits =
+    let put-digits = digits_of_frame frame in
+    let long : length put-digits ≡ line_digits = length-of-frame frame in
+    let put : set (paste before at put-digits (length put-digits)) (at + length put-digits) 10 ≡ paste before at (put-digits ++ (10 ∷ [])) (suc (length put-digits)) =
+    put-after before at put-digits 10 (omega arith)
     in
-    rw (digits, digits-of-frame first second third fourth number a b c d n) (rw long at put)
+    rw (digits, is, digits-of-frame frame b c d n) (rw long at put)
 
-pub length-of-line : (first second third fourth number : ℕ) → length (line_of first second third fourth number) ≡ line_size
+pub length-of-line : (frame : Frame) → length (line_of frame) ≡ line_size
 unfolding line_of
-length-of-line first second third fourth number =
-    length-append (digits_of_frame first second third fourth number) (10 ∷ []) ∙ omega (arith, length-of-frame first second third fourth number)
+length-of-line frame = length-append (digits_of_frame frame) (10 ∷ []) ∙ omega (arith, length-of-frame frame)

@@ -1,5 +1,6 @@
 -- Hexadecimal digits, and the numbers that they stand for.
-use Rattle.std.specs.Prelude.{Bool, true, cond, ◌&&◌, List, [], ◌∷◌, ◌++◌, ℕ, zero, suc, ◌+◌, ◌-◌, ◌*◌, ◌/◌, ◌%◌, leb, ltb}
+use Rattle.std.specs.Prelude.{Bool, cond, ◌&&◌, List, [], ◌∷◌, ◌++◌, ℕ, zero, suc, ◌+◌, ◌-◌, ◌*◌, ◌/◌, ◌%◌, leb, ltb}
+use Rattle.std.specs.List.{list_all}
 
 -- the byte lies between two others, both included
 abbrev pub between : ℕ → ℕ → ℕ → Bool
@@ -22,8 +23,7 @@ digit_of value = cond (ltb value 10) (48 + value) (55 + value)
 
 -- every byte is a digit
 abbrev pub all_digits : List ℕ → Bool
-all_digits [] = true
-all_digits (byte ∷ bytes) = ltb (value_of byte) 16 && all_digits bytes
+all_digits bytes = list_all (λ byte. ltb (value_of byte) 16) bytes
 
 -- the number that digits stand for after those of `above`
 abbrev pub number_after : ℕ → List ℕ → ℕ

@@ -5,49 +5,28 @@ ghost use Rattle.text_hex.specs.Lines.{frame_of};
 
 use crate::digit::value;
 use crate::write::LINE_DIGITS;
+use protocol::Frame;
 
-// What a line holds: a frame's numbers, or it is no frame.
-#[derive(Clone, Copy)]
-pub enum Reading {
-    Frame {
-        code: u8,
-        name: u8,
-        symbol: u8,
-        fourth: u8,
-        number: u32,
-    },
-    Bad,
-}
-
-pub fn read_line(line: &[u8]) -> Reading
+// The frame that a line spells, if it is sixteen digits.
+pub fn read_line(line: &[u8]) -> Option<Frame>
     ensures { result ≡ frame_of line.now }
 {
-    if line.len() != LINE_DIGITS {
-        return Reading::Bad;
+    if line.len() != LINE_DIGITS || !are_digits(line) {
+        return None;
     }
-    if !are_digits(line) {
-        return Reading::Bad;
-    }
-    Reading::Frame {
-        code: byte_at(line, 0),
-        name: byte_at(line, 2),
-        symbol: byte_at(line, 4),
+    Some(Frame {
+        first: byte_at(line, 0),
+        second: byte_at(line, 2),
+        third: byte_at(line, 4),
         fourth: byte_at(line, 6),
         number: number(&line[8..LINE_DIGITS]),
-    }
+    })
 }
 
 fn are_digits(line: &[u8]) -> bool
     ensures { result ≡ all_digits line.now }
 {
-    let mut i = 0;
-    while i < line.len() {
-        if value(line[i]) >= 16 {
-            return false;
-        }
-        i += 1;
-    }
-    true
+    line.iter().all(|byte| value(*byte) < 16)
 }
 
 // The byte that the two digits at `at` stand for.
@@ -63,11 +42,9 @@ fn number(digits: &[u8]) -> u32
     requires { (length digits.now ≤ 8) × (all_digits digits.now ≡ true) }
     ensures { result ≡ number_of_digits digits.now }
 {
-    let mut number: u32 = 0;
-    let mut i = 0;
-    while i < digits.len() {
-        number = number * 16 + value(digits[i]) as u32;
-        i += 1;
+    let mut number = 0;
+    for &digit in digits {
+        number = number * 16 + u32::from(value(digit));
     }
     number
 }

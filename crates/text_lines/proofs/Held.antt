@@ -1,56 +1,14 @@
--- A line that is held: with one byte more, what its kept bytes tell of it, and whether it is a line that no line feed ends.
-use mathlib.Core.Bool.{Bool, false}
-use mathlib.Core.Path.{◌≡◌, refl, ap, sym, ◌∙◌}
+-- A line that is held: what its kept bytes tell of it, and whether it is a line that no line feed ends.
+use mathlib.Core.Bool.{Bool}
+use mathlib.Core.Path.{◌≡◌, refl, ap, ◌∙◌}
 use mathlib.Core.List.{List, [], ◌∷◌, ◌++◌, append-nil}
-use Prim.Native.Nat.{ℕ, suc, ◌+◌, ◌≤◌, ◌<◌, min}
+use Prim.Native.Nat.{ℕ, ◌≤◌, ◌<◌, min}
 use native.Mathlib.Decide.{dec_le}
 use native.Mathlib.Omega.{arith}
-use native.Mathlib.Numerals.{add-one}
-use lib.ListN.{length, take, set, length-append, length-set}
-use lib.Seq.{take-suc-set, take_all, take-append-le}
+use lib.ListN.{length, take}
+use lib.Seq.{take_all}
 use Rattle.text_lines.specs.declared.Gathered.{Gathered}
-use Rattle.text_lines.specs.Lines.{most_length, ended, left, last_line, lines_of, Holds, Adds}
-
-module _ (byte : ℕ) (before : Gathered) (keep : List ℕ) (n : ℕ) (counted : n ≡ min most_length (before.length + 1)) where
-  -- the buffer's front with the byte stored after it, where the whole line is in the buffer
-  stored : (line : List ℕ) → before.kept < length keep → Holds line before keep →
-      take (before.kept + 1) (set keep before.kept byte) ≡ take (before.kept + 1) (line ++ (byte ∷ []))
-  stored line room h =
-      let fits : length line ≤ before.kept = omega arith in
-      let one : length (line ++ (byte ∷ [])) ≤ suc before.kept = rw length-append (omega arith) in
-      rw add-one
-      (take-suc-set keep before.kept byte room
-      ∙ ap (λ (l : List ℕ). l ++ (byte ∷ [])) (h.bytes ∙ take_all before.kept line fits)
-      ∙ sym (take_all (suc before.kept) (line ++ (byte ∷ [])) one))
-
-  -- a byte that the buffer has room for
-  pub adds-stored : before.kept < length keep →
-      Adds byte before keep (set keep before.kept byte) (record { kept = before.kept + 1; length = n; waits = false })
-  adds-stored room =
-      record {
-        same = length-set keep before.kept byte;
-        line = λ line h.
-            record {
-              kept = rw (length-set, length-append) (omega arith);
-              bytes = stored line room h;
-              long = rw length-append (omega arith);
-            };
-        waits = refl;
-      }
-
-  -- a byte that it has no room for
-  pub adds-counted : length keep ≤ before.kept → Adds byte before keep keep (record { kept = before.kept; length = n; waits = false })
-  adds-counted full =
-      record {
-        same = refl;
-        line = λ line h.
-            record {
-              kept = rw length-append (omega arith);
-              bytes = h.bytes ∙ sym (take-append-le before.kept line (byte ∷ []) (omega arith));
-              long = rw length-append (omega arith);
-            };
-        waits = refl;
-      }
+use Rattle.text_lines.specs.Lines.{ended, left, last_line, lines_of, Holds}
 
 -- What a held line tells. The kept bytes stand for it in whatever doesn't look past the buffer's end.
 module _ {A : Type 0} (f : List ℕ → A) (line : List ℕ) (s : Gathered) (keep : List ℕ) (h : Holds line s keep)

@@ -1,7 +1,7 @@
--- How far a gathering has come: what is known after i bytes, and what it makes of the whole at a line feed and at the end.
-use mathlib.Core.Bool.{Bool, true, false, false≢true}
-use mathlib.Core.Path.{◌≡◌, refl, ap, sym, ◌∙◌}
-use mathlib.Core.List.{List, [], ◌∷◌, ◌++◌, append_assoc, append-nil}
+-- How far a gathering has come: what is known after i bytes, and what it makes of the whole at a line feed.
+use mathlib.Core.Bool.{Bool, false≢true}
+use mathlib.Core.Path.{◌≡◌, ap, sym, ◌∙◌}
+use mathlib.Core.List.{List, [], ◌∷◌, ◌++◌, append_assoc}
 use Prim.Native.Nat.{ℕ, ◌+◌, ◌-◌, ◌≤◌, ◌<◌}
 use native.Mathlib.Omega.{arith}
 use lib.ListN.{length, get_or, take}
@@ -9,6 +9,7 @@ use Rattle.lists.proofs.Cuts.{take_next}
 use Rattle.lists.proofs.Items.{all_append}
 use Rattle.text_lines.specs.declared.Gathered.{Gathered}
 use Rattle.text_lines.specs.Lines.{line_feed, Plain, Stands, Accepts, Gathers}
+use Rattle.text_lines.specs.declared.Gathering.TheVariants.{Whole}
 
 -- no line feed is among the first i bytes, and the state has gone on by them
 pub record Passed (returns : Bool) (bytes : List ℕ) (before : Gathered) (keep : List ℕ) (i : ℕ) (line : Gathered) (keep' : List ℕ) : Type 0 where
@@ -18,16 +19,6 @@ pub record Passed (returns : Bool) (bytes : List ℕ) (before : Gathered) (keep 
   pub stands : (gathered : List ℕ) → Stands returns gathered before keep → Stands returns (gathered ++ take i bytes) line keep'
 
 module _ (r : Bool) (bytes : List ℕ) (before : Gathered) (keep : List ℕ) where
-  -- no byte has been passed
-  pub passed_none : Passed r bytes before keep 0 before keep
-  passed_none =
-      record {
-        within = omega arith;
-        plain = tt;
-        same = refl;
-        stands = λ g h. rw append-nil h;
-      }
-
   module _ (i : ℕ) (line : Gathered) (keep' : List ℕ) (passed : Passed r bytes before keep i line keep') where
     -- one more byte that is no line feed
     pub passed-more : (line' : Gathered) (keep'' : List ℕ) → i < length bytes → (get_or bytes i 0 ≡ line_feed → ⊥) →
@@ -44,7 +35,7 @@ module _ (r : Bool) (bytes : List ℕ) (before : Gathered) (keep : List ℕ) whe
 
     -- the next byte is a line feed
     pub gathers-line : i < length bytes → get_or bytes i 0 ≡ line_feed →
-        Gathers r bytes before keep keep' (record { taken = i + 1; ended = true; line = line })
+        Gathers r bytes before keep keep' (Whole (i + 1) line)
     gathers-line inside feed =
         let back : i + 1 - 1 ≡ i = omega arith in
         record {
@@ -55,17 +46,4 @@ module _ (r : Bool) (bytes : List ℕ) (before : Gathered) (keep : List ℕ) whe
           onward = λ some. omega arith;
           same = passed.same;
           stands = λ g h. rw back (passed.stands g h);
-        }
-
-    -- there is no next byte
-    pub gathers-all : length bytes ≤ i → Gathers r bytes before keep keep' (record { taken = i; ended = false; line = line })
-    gathers-all over =
-        record {
-          plain = passed.plain;
-          taken = sym (append-nil (take i bytes));
-          all = λ e. omega arith;
-          within = omega arith;
-          onward = λ some. omega arith;
-          same = passed.same;
-          stands = passed.stands;
         }

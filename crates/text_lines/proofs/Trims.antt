@@ -8,6 +8,7 @@ use lib.Dec.{eqb}
 use lib.ListN.{length, get_or, take, length-append}
 use lib.Seq.{get_or-append_seam, take-append_seam, take-suc, take_all}
 use borrow.Author.Tests.{eqb-true, eq-eqb, ne_eqb}
+use Rattle.std.proofs.lemmas.Bool.{and_parts}
 use Rattle.text_lines.specs.Lines.{carriage_return, trims, trim}
 
 -- the last place of a list that has one byte more
@@ -42,15 +43,10 @@ last-return (b ∷ bs) e =
     ∙ sym (take-suc (b ∷ bs) (length (b ∷ bs) - 1) 0 (omega arith))
     ∙ take_all (suc (length (b ∷ bs) - 1)) (b ∷ bs) (omega arith)
 
--- the second of two tests that both hold
-second_holds : (r t : Bool) → r && t ≡ true → t ≡ true
-second_holds true t e = e
-second_holds false t e = absurd (false≢true e)
-
 -- bytes of which a carriage return is trimmed off
 pub trim-some : (r : Bool) (g : List ℕ) → trims r g ≡ true → trim r g ++ (carriage_return ∷ []) ≡ g
 unfolding trim trims
-trim-some r g e = rw e (last-return g (eqb-true _ _ (second_holds r _ e)))
+trim-some r g e = rw e (last-return g (eqb-true _ _ (and_parts r _ e).1))
 
 -- of no bytes nothing is trimmed off
 pub trims-nil : (r : Bool) → trims r [] ≡ false

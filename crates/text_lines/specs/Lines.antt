@@ -1,9 +1,10 @@
 -- The lines of a stream of bytes, and what the state of one that is being read says of them.
-use Rattle.std.specs.Prelude.{Bool, false, cond, ◌&&◌, ◌≡◌, List, [], ◌∷◌, ◌++◌, ℕ, ◌-◌, ◌^◌, ◌≤◌, ◌<◌, min, eqb, length, get_or, take}
+use Rattle.std.specs.Prelude.{Bool, true, false, cond, ◌&&◌, ◌≡◌, List, [], ◌∷◌, ◌++◌, ℕ, ◌-◌, ◌^◌, ◌≤◌, ◌<◌, min, eqb, length, get_or, take}
 use Rattle.lists.specs.Items.{All}
 use Rattle.lists.specs.Joins.{joined}
 use Rattle.text_lines.specs.declared.Gathered.{Gathered}
 use Rattle.text_lines.specs.declared.Gathering.{Gathering}
+use Rattle.text_lines.specs.declared.Gathering.TheVariants.{Whole, Unfinished}
 
 -- the byte that ends a line
 abbrev pub line_feed : ℕ
@@ -87,9 +88,24 @@ pub record Accepts (byte : ℕ) (returns : Bool) (before : Gathered) (keep keep'
   pub same : length keep' ≡ length keep
   pub stands : (gathered : List ℕ) → Stands returns gathered before keep → Stands returns (gathered ++ (byte ∷ [])) result keep'
 
+-- how many of the bytes were taken: all of them where no line feed was met
+abbrev pub taken_of : List ℕ → Gathering → ℕ
+taken_of bytes (Whole taken line) = taken
+taken_of bytes (Unfinished line) = length bytes
+
+-- whether the last of them was a line feed, so that the line is whole
+abbrev pub is_whole : Gathering → Bool
+is_whole (Whole taken line) = true
+is_whole (Unfinished line) = false
+
+-- the line after them
+abbrev pub line_after : Gathering → Gathered
+line_after (Whole taken line) = line
+line_after (Unfinished line) = line
+
 -- the line's bytes among those that were taken: all but the line feed, if one was taken
 abbrev pub piece : List ℕ → Gathering → List ℕ
-piece bytes result = take (cond result.ended (result.taken - 1) result.taken) bytes
+piece bytes result = take (cond (is_whole result) (taken_of bytes result - 1) (taken_of bytes result)) bytes
 
 -- the bytes taken after the piece: the line feed, or none
 abbrev pub end_bytes : Bool → List ℕ
@@ -99,13 +115,13 @@ end_bytes ended = cond ended (line_feed ∷ []) []
 pub record Gathers (returns : Bool) (bytes : List ℕ) (before : Gathered) (keep keep' : List ℕ) (result : Gathering) : Type 0 where
   -- what was taken is a piece without a line feed, and then a line feed exactly if the line ended
   pub plain : Plain (piece bytes result)
-  pub taken : take result.taken bytes ≡ piece bytes result ++ end_bytes result.ended
+  pub taken : take (taken_of bytes result) bytes ≡ piece bytes result ++ end_bytes (is_whole result)
   -- where it didn't, all was taken
-  pub all : result.ended ≡ false → result.taken ≡ length bytes
-  pub within : result.taken ≤ length bytes
+  pub all : is_whole result ≡ false → taken_of bytes result ≡ length bytes
+  pub within : taken_of bytes result ≤ length bytes
   -- a caller's loop goes on
-  pub onward : 0 < length bytes → 0 < result.taken
+  pub onward : 0 < length bytes → 0 < taken_of bytes result
   pub same : length keep' ≡ length keep
   -- the state stands for the piece too, whatever bytes of the line came before it
   pub stands : (gathered : List ℕ) → Stands returns gathered before keep
-      → Stands returns (gathered ++ piece bytes result) result.line keep'
+      → Stands returns (gathered ++ piece bytes result) (line_after result) keep'

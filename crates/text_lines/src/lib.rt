@@ -2,35 +2,33 @@
 // lends, as many as it has room for, and the line's length is counted. specs/Lines.antt says what the lines are.
 #![tactic(auto)]
 
-ghost use Rattle.std.specs.Prelude.{Bool, List, [], ◌≡◌, ℕ, ◌+◌, min, take};
-ghost use Rattle.text_lines.specs.Lines.{most_length, Stands, Adds, Finishes, Accepts, Gathers};
+ghost use Rattle.std.specs.Prelude.{Bool, List, [], ◌≡◌, ℕ, take};
+ghost use Rattle.text_lines.specs.Lines.{Stands, Adds, Finishes, Accepts, Gathers};
 
 pub const LINE_FEED: u8 = 10;
 
 const CARRIAGE_RETURN: u8 = 13;
-// the largest length that is told of a line
-const MOST_LENGTH: usize = 18446744073709551615;
 
-// A line that is being read, beside the buffer whose front holds its first bytes.
+// A line that is being read, beside the buffer whose front holds its first bytes. The caller lends the buffer, since no crate allocates, to
+// each call anew: as a field it would be lent from one call to the next.
 #[derive(Clone, Copy)]
 pub struct Gathered {
     // how many bytes the buffer holds
     pub kept: usize,
-    // how long the line is so far, at most MOST_LENGTH
+    // how long the line is so far; one longer than a usize can tell counts as long as that
     pub length: usize,
-    // whether a carriage return has come that belongs to the line's end if a line feed follows
+    // whether a carriage return has come that belongs to the line's end if a line feed follows: no other field depends on it, so cases
+    // would only repeat them
     pub waits: bool,
 }
 
 // What came of a chunk's bytes.
 #[derive(Clone, Copy)]
-pub struct Gathering {
-    // how many bytes were taken from the front, the line feed among them
-    pub taken: usize,
-    // whether the last of them was a line feed, so that the line is whole
-    pub ended: bool,
-    // the line after these bytes
-    pub line: Gathered,
+pub enum Gathering {
+    // so many bytes were taken from the front, the last of them a line feed, and the line is whole
+    Whole { taken: usize, line: Gathered },
+    // all bytes were taken, and no line feed is among them
+    Unfinished { line: Gathered },
 }
 
 impl Gathered {
@@ -46,23 +44,13 @@ impl Gathered {
     }
 }
 
-// One more than the length, where that can be told.
-fn counted(length: usize) -> usize
-    ensures { result ≡ min most_length (length + 1) }
-{
-    if length < MOST_LENGTH {
-        length + 1
-    } else {
-        MOST_LENGTH
-    }
-}
-
 // The line with one byte more, which is kept where the buffer has room.
 fn add(byte: u8, before: Gathered, keep: &mut [u8]) -> Gathered
     ensures { Adds byte before keep.old keep.new result }
 {
     let kept = before.kept;
-    let length = counted(before.length);
+    let length = before.length.saturating_add(1);
+    // not `get_mut`, after a write through which std says nothing of the other elements
     if kept < keep.len() {
         keep[kept] = byte;
         Gathered {
@@ -72,9 +60,9 @@ fn add(byte: u8, before: Gathered, keep: &mut [u8]) -> Gathered
         }
     } else {
         Gathered {
-            kept,
             length, // counted all the same
             waits: false,
+            ..before
         }
     }
 }
@@ -83,8 +71,7 @@ fn add(byte: u8, before: Gathered, keep: &mut [u8]) -> Gathered
 pub fn finish(before: Gathered, keep: &mut [u8]) -> Gathered
     ensures { Finishes before keep.old keep.new result }
 {
-    let waits = before.waits;
-    if waits {
+    if before.waits {
         add(CARRIAGE_RETURN, before, keep)
     } else {
         before
@@ -96,16 +83,14 @@ fn accept(byte: u8, returns: bool, before: Gathered, keep: &mut [u8]) -> Gathere
     ensures { Accepts byte returns before keep.old keep.new result }
 {
     let line = finish(before, keep);
-    if returns {
-        if byte == CARRIAGE_RETURN {
-            return Gathered {
-                kept: line.kept,
-                length: line.length,
-                waits: true,
-            };
+    if returns && byte == CARRIAGE_RETURN {
+        Gathered {
+            waits: true,
+            ..line
         }
+    } else {
+        add(byte, line, keep)
     }
-    add(byte, line, keep)
 }
 
 // Takes bytes in from the front, up to and with a line feed, or all of them if there is none.
@@ -113,32 +98,18 @@ pub fn gather(bytes: &[u8], returns: bool, before: Gathered, keep: &mut [u8]) ->
     ensures { Gathers returns bytes.now before keep.old keep.new result }
 {
     let mut line = before;
-    let mut i = 0;
-    while i < bytes.len() {
-        let byte = bytes[i];
+    for (i, &byte) in bytes.iter().enumerate() {
         if byte == LINE_FEED {
-            return Gathering {
-                taken: i + 1,
-                ended: true,
-                line,
-            };
+            return Gathering::Whole { taken: i + 1, line };
         }
         line = accept(byte, returns, line, keep);
-        i += 1;
     }
-    Gathering {
-        taken: i,
-        ended: false,
-        line,
-    }
+    Gathering::Unfinished { line }
 }
 
 // The first `count` bytes, or all where there are fewer.
 pub fn first_bytes(bytes: &[u8], count: usize) -> &[u8]
     ensures { result.now ≡ take count bytes.now }
 {
-    if bytes.len() <= count {
-        return bytes;
-    }
-    &bytes[..count]
+    &bytes[..count.min(bytes.len())]
 }

@@ -1,8 +1,5 @@
-use Rattle.program_batches.proofs.Completed.{completing-none, place-there, answer-there, completing-more, completing-all}
+use Rattle.program_batches.proofs.Completed.{place-there, answer-there, completing-more, completing-all}
 use Rattle.program_batches.proofs.complete.Goals as goal
-
-pub loop-line-init : goal.loop-line-init
-loop-line-init c = search completing-none
 
 pub put_answer-used-requires : goal.put_answer-used-requires
 put_answer-used-requires c = (search place-there, search answer-there)

@@ -2,8 +2,8 @@
 use Rattle.program_insertions.proofs.Stream.{line_taken, none-taken}
 use Rattle.program_insertions.proofs.take_line.Goals as goal
 
-pub returns-then-ended : goal.returns-then-ended
-returns-then-ended c = search line_taken
+pub returns-in-Whole : goal.returns-in-Whole
+returns-in-Whole c = search (line_taken, c.in-Whole.ensures)
 
-pub returns : goal.returns
-returns c = search none-taken
+pub returns-in-Unfinished : goal.returns-in-Unfinished
+returns-in-Unfinished c = search (none-taken, c.in-Unfinished.ensures)

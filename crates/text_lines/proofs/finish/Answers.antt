@@ -2,8 +2,8 @@
 use Rattle.text_lines.proofs.Standing.{finishes-return, finishes-plain}
 use Rattle.text_lines.proofs.finish.Goals as goal
 
-pub returns-then-waits : goal.returns-then-waits
-returns-then-waits c = search finishes-return
+pub returns-then-before : goal.returns-then-before
+returns-then-before c = search finishes-return
 
-pub returns-else-waits : goal.returns-else-waits
-returns-else-waits c = search finishes-plain
+pub returns-else-before : goal.returns-else-before
+returns-else-before c = search finishes-plain

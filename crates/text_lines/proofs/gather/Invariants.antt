@@ -1,12 +1,7 @@
 -- `text_lines::gather` meets its contract. The invariant: no line feed is among the bytes passed, and the state has gone on by them.
--- At a line feed and at the end this is the contract. The measure is what is left of the bytes.
-use Prim.Native.Nat.{◌-◌}
-use lib.ListN.{length}
+-- At a line feed and at the end this is the contract.
 use Rattle.text_lines.proofs.Passed.{Passed}
 use Rattle.text_lines.proofs.gather.Given as goal
 
 abbrev pub invariant-loop-i : goal.invariant-loop-i
 invariant-loop-i l = Passed l.returns l.bytes l.initial.line l.initial.keep l.i l.line l.keep
-
-abbrev pub decreases-loop-i : goal.decreases-loop-i
-decreases-loop-i l = length l.bytes - l.i

@@ -3,7 +3,7 @@ use Rattle.frame_execute.proofs.Steps.{close-ready, close-steps}
 use Rattle.frame_execute.proofs.changes.close_name.Goals as goal
 
 pub close-requires : goal.close-requires
-close-requires c = search close-ready
+close-requires c = rw c.from.ensures (search close-ready)
 
 pub returns : goal.returns
-returns c = search close-steps
+returns c = let done = rw c.from.ensures at c.close.ensures in search close-steps

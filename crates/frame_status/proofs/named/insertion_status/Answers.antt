@@ -8,8 +8,8 @@ returns-then-c-found c = search insert-symbol
 pub returns-then-not-is_place : goal.returns-then-not-is_place
 returns-then-not-is_place c = search insert-outside
 
-pub returns-then-found : goal.returns-then-found
-returns-then-found c = search insert-full
+pub returns-then-from : goal.returns-then-from
+returns-then-from c = search insert-full
 
 pub returns : goal.returns
 returns c = search insert-passes

@@ -1,4 +1,4 @@
--- `frame_status::named::place_status` meets its contract: one law for each status that a delete or an access can get.
+-- `frame_status::named::place_status` meets its contract: one law for each way out of a delete's or an access's tests.
 use Rattle.frame_status.proofs.Statuses.{place-outside, place-passes}
 use Rattle.frame_status.proofs.named.place_status.Goals as goal
 

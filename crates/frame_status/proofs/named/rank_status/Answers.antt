@@ -5,8 +5,8 @@ use Rattle.frame_status.proofs.named.rank_status.Goals as goal
 pub returns-then-c-found : goal.returns-then-c-found
 returns-then-c-found c = search rank-symbol
 
-pub returns-then-not-is_place : goal.returns-then-not-is_place
-returns-then-not-is_place c = search rank-outside
+pub returns-then-c-from : goal.returns-then-c-from
+returns-then-c-from c = search rank-outside
 
 pub returns : goal.returns
 returns c = search rank-passes

@@ -1,12 +1,11 @@
--- `frame_status::well_formed::uses_number` meets its contract: the table says so of these codes and of no others.
-use Rattle.frame_status.proofs.Codes.{number-used, number-unused, number-used-up-to}
+-- `frame_status::well_formed::uses_number` meets its contract: the table says so of these operations and of no others.
+use Rattle.frame_status.proofs.Codes.{number-used, number-unused}
 use Rattle.frame_status.proofs.well_formed.uses_number.Goals as goal
-
-pub returns-then-code-eq-OPEN : goal.returns-then-code-eq-OPEN
-returns-then-code-eq-OPEN c = search number-used
-
-pub returns-then-code-lt-INSERT : goal.returns-then-code-lt-INSERT
-returns-then-code-lt-INSERT c = search number-unused
+use Rattle.frame_status.proofs.well_formed.uses_number.Goals.{in-Close, in_default}
 
 pub returns : goal.returns
-returns c = search number-used-up-to
+returns c =
+    elim c.match-matches.branch [
+      | in-Close w ↦ rw w.matches-is (number-unused _ w.in-Close.is)
+      | in_default w ↦ rw w.matches-is (number-used _ w.in_default.not-Close w.in_default.not-Length w.in_default.not-Unpromised)
+    ]

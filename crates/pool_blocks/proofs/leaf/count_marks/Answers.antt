@@ -2,7 +2,7 @@ use native.Mathlib.Omega.{arith}
 use Rattle.pool_blocks.proofs.Leaves.{place-few, place-small}
 use Rattle.pool_blocks.proofs.Scans.{met-none, met-more, met-wide, met-past, met-same, met-other, met_all}
 use Rattle.pool_blocks.proofs.leaf.count_marks.Goals as goal
-use Rattle.pool_blocks.proofs.leaf.count_marks.Goals.{then-pool-at+then-left-behind, then-pool-at+else-left-behind, else-pool-at}
+use Rattle.pool_blocks.proofs.leaf.count_marks.Goals.{then-mark-c+then-left-behind, else-mark-c, else-mark-c-via-then-mark-c+else-left-behind, else-mark-c-via-else-mark-c}
 
 pub overflow_cast-behind-2 : goal.overflow_cast-behind-2
 overflow_cast-behind-2 c = record { fits = search place-small }
@@ -10,15 +10,21 @@ overflow_cast-behind-2 c = record { fits = search place-small }
 pub overflow_sub-behind : goal.overflow_sub-behind
 overflow_sub-behind c = search place-few
 
-pub loop-k-init : goal.loop-k-init
-loop-k-init c = (omega arith, omega arith, search met-none)
+pub loop-mark-init : goal.loop-mark-init
+loop-mark-init c = (omega arith, omega arith, search met-none)
 
 pub overflow_add-met : goal.overflow_add-met
 overflow_add-met c = record { fits = search met-more }
 
-pub loop-k-preserved : goal.loop-k-preserved
-loop-k-preserved c =
-    (omega arith, omega arith, elim c.if-pool-at.branch [ then-pool-at+then-left-behind w ↦ search met-same | then-pool-at+else-left-behind w ↦ search met-past | else-pool-at w ↦ search met-other ])
+pub loop-mark-preserved : goal.loop-mark-preserved
+loop-mark-preserved c = (
+  omega arith,
+  omega arith,
+  elim c.if-mark-c.branch [
+    | then-mark-c+then-left-behind w ↦ search met-same
+    | else-mark-c w ↦ elim w.else-mark-c.branch [ else-mark-c-via-then-mark-c+else-left-behind v ↦ search met-past | else-mark-c-via-else-mark-c v ↦ search met-other ]
+  ],
+)
 
 pub overflow_cast-result : goal.overflow_cast-result
 overflow_cast-result c = record { fits = search met-wide }

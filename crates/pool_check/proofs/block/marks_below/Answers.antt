@@ -1,15 +1,14 @@
-use borrow.Author.Rules.{rules}
-use Rattle.pool_check.proofs.Leaves.{below-start, below_next, below_all, below-not}
+-- `pool_check::block::marks_below` meets its contract: the marks are a stretch of the pool, and all of them are tested.
+use Rattle.std.proofs.Common.{◌+◌, ◌<◌, ◌≤◌, rules}
+use borrow.Author.Tests.{tests}
+use Rattle.std.proofs.lemmas.Iterator.{cases_from_all, YieldsList-from_slice}
+use Rattle.std.specs.List.{slice_range}
+use Rattle.pool_check.proofs.Leaves.{all-below}
 use Rattle.pool_check.proofs.block.marks_below.Goals as goal
 
-pub loop-i-init : goal.loop-i-init
-loop-i-init c = (search rules, search below-start)
-
-pub returns-then-pool-at : goal.returns-then-pool-at
-returns-then-pool-at c = search below-not
-
-pub loop-i-preserved : goal.loop-i-preserved
-loop-i-preserved c = (search rules, search below_next)
-
 pub returns : goal.returns
-returns c = search below_all
+returns c =
+    all-below _ _ _ c.requires.0 c.requires.1 c.requires.2 _ _ c.block_at-at.ensures _
+    (cases_from_all _ _ _ (λ x. x < c.args.alphabet) (λ x. c.args.alphabet ≤ x) c.all.ensures.ran
+    (YieldsList-from_slice (slice_range c.args.pool.now c.block_at-at.result (c.block_at-at.result + c.args.many)) cc)
+    (λ x q k. search (rules, tests)) (λ x q k. search (rules, tests)))

@@ -5,5 +5,5 @@ use Rattle.pool_check.proofs.names.check_name.Goals as goal
 pub returns-then-found-eq-KIND_CLOSED : goal.returns-then-found-eq-KIND_CLOSED
 returns-then-found-eq-KIND_CLOSED c = search closed-walked
 
-pub returns : goal.returns
-returns c = search open-walked
+pub returns-else-found-eq-KIND_CLOSED : goal.returns-else-found-eq-KIND_CLOSED
+returns-else-found-eq-KIND_CLOSED c = search open-walked

@@ -1,13 +1,8 @@
 -- `pool_check::names::check_names` meets its contract. The loop's invariant: the names passed were walked in turn.
 use mathlib.Core.Bool.{true}
-use Prim.Native.Nat.{◌-◌, ◌≤◌}
-use Rattle.geometry.specs.Limits.{names}
 use Rattle.pool_check.specs.Walks.{WalkedNames}
 use Rattle.pool_check.specs.Parts.{SoundName}
 use Rattle.pool_check.proofs.names.check_names.Given as goal
 
 abbrev pub invariant-loop-name : goal.invariant-loop-name
-invariant-loop-name l = (l.name ≤ names) × WalkedNames true (SoundName l.pool) l.pool l.name l.initial.map l.map
-
-abbrev pub decreases-loop-name : goal.decreases-loop-name
-decreases-loop-name l = names - l.name
+invariant-loop-name l = WalkedNames true (SoundName l.pool) l.pool l.name l.initial.map l.map

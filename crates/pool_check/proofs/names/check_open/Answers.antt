@@ -1,32 +1,23 @@
--- `pool_check::names::check_open` meets its contract: refused by its record, by its tree, by the marks of a root that is a leaf, or by its length alone.
-use borrow.Author.Rules.{rules}
-use borrow.Author.Tests.{not-true, not-false}
-use Rattle.pool_check.proofs.Walks.{walk-found}
-use Rattle.pool_check.proofs.Naming.{alphabet-fits, record-refused, root-refused, root-unfit, root-measured}
+-- `pool_check::names::check_open` meets its contract: where the record and the tree pass, its length decides.
+use mathlib.Core.Bool.{true}
+use mathlib.Core.Path.{◌≡◌}
+use native.Mathlib.Omega.{arith}
+use Rattle.pool_check.proofs.Naming.{root-measured}
 use Rattle.pool_check.proofs.names.check_open.Goals as goal
+use Rattle.pool_check.proofs.names.check_open.Goals.{then-record_sound, else-record_sound, then-check_block, else-check_block}
 
-pub returns-then-not-record_sound : goal.returns-then-not-record_sound
-returns-then-not-record_sound c = search (record-refused, not-true)
-
-pub check_block-requires : goal.check_block-requires
-check_block-requires c = (search rules, search rules, search (alphabet-fits, not-false))
-
-pub returns-then-not-check_block : goal.returns-then-not-check_block
-returns-then-not-check_block c = search (root-refused, not-true)
-
--- the root that was walked is a sound block
-pub root_fits-requires : goal.root_fits-requires
-root_fits-requires c =
-    let root = (walk-found _ c.if-not-check_block.false c.check_block.ensures).0 in
-    (root.inside, root.fits)
-
-pub returns-then-not-root_fits : goal.returns-then-not-root_fits
-returns-then-not-root_fits c = search (root-unfit, not-true)
-
-pub own_marks-requires : goal.own_marks-requires
-own_marks-requires c =
-    let root = (walk-found _ c.if-not-check_block.false c.check_block.ensures).0 in
-    (root.inside, root.fits)
-
-pub returns : goal.returns
-returns c = search (root-measured, not-false)
+pub returns-then-root_fits : goal.returns-then-root_fits
+returns-then-root_fits c =
+    elim c.if-check_block.branch [
+      | then-check_block w ↦ elim c.if-record_sound.branch [
+        | then-record_sound v ↦
+            let walked : v.check_block.result ≡ true = cc in
+            let fit : w.root_fits.result ≡ true = cc in
+            let height : c.from-height.result ≡ c.args.found.height = grind arith in
+            let root : c.from-root.result ≡ c.args.found.root = grind arith in
+            let length : c.from.result ≡ c.args.found.length = grind arith in
+            rw v.map-is (search root-measured)
+        | else-record_sound v ↦ absurd cc
+      ]
+      | else-check_block w ↦ absurd cc
+    ]

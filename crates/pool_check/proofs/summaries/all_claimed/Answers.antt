@@ -1,5 +1,5 @@
 use borrow.Author.Rules.{rules}
-use Rattle.lists.proofs.Sums.{sum-none, sum_more, sum-all}
+use Rattle.lists.proofs.Sums.{sum-none, sum_more}
 use Rattle.pool_check.proofs.summaries.all_claimed.Goals as goal
 
 pub loop-c-init : goal.loop-c-init
@@ -7,6 +7,3 @@ loop-c-init c = search (sum-none, rules)
 
 pub loop-c-preserved : goal.loop-c-preserved
 loop-c-preserved c = search (sum_more, rules)
-
-pub returns : goal.returns
-returns c = search sum-all

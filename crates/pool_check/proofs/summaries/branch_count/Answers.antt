@@ -5,5 +5,5 @@ use Rattle.pool_check.proofs.summaries.branch_count.Goals as goal
 pub returns-then-many-eq-LEAST_BRANCH : goal.returns-then-many-eq-LEAST_BRANCH
 returns-then-many-eq-LEAST_BRANCH c = search count-two
 
-pub returns : goal.returns
-returns c = search count-three
+pub returns-else-many-eq-LEAST_BRANCH : goal.returns-else-many-eq-LEAST_BRANCH
+returns-else-many-eq-LEAST_BRANCH c = search count-three

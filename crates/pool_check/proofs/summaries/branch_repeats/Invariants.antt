@@ -1,13 +1,8 @@
 -- `pool_check::summaries::branch_repeats` meets its contract. The loop's invariant: `same` says exactly whether the entry is right as to the marks and
 -- the symbols passed.
-use Prim.Native.Nat.{◌-◌, ◌≤◌}
-use Rattle.geometry.specs.Limits.{most_alphabet}
 use Rattle.pool_check.specs.Says.{Says}
 use Rattle.pool_check.proofs.Repeating.{RepeatsTo}
 use Rattle.pool_check.proofs.summaries.branch_repeats.Given as goal
 
 abbrev pub invariant-loop-c : goal.invariant-loop-c
-invariant-loop-c l = (l.c ≤ most_alphabet) × Says l.same (RepeatsTo l.pool 1 l.b l.k l.child l.c)
-
-abbrev pub decreases-loop-c : goal.decreases-loop-c
-decreases-loop-c l = most_alphabet - l.c
+invariant-loop-c l = Says l.same (RepeatsTo l.pool 1 l.b l.k l.child l.c)

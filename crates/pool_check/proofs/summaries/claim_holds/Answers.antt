@@ -1,12 +1,7 @@
--- `pool_check::summaries::claim_holds` meets its contract: nothing told, a symbol past the alphabet, or a count.
-use Rattle.pool_check.proofs.Claims.{claim-none, claim-over, claim-counted}
+-- `pool_check::summaries::claim_holds` meets its contract: where something is told of a symbol of the alphabet, by a count.
+use Rattle.std.proofs.Common.{◌<◌, arith}
+use Rattle.pool_check.proofs.Claims.{claim-counted}
 use Rattle.pool_check.proofs.summaries.claim_holds.Goals as goal
 
-pub returns-then-told-eq0 : goal.returns-then-told-eq0
-returns-then-told-eq0 c = search claim-none
-
-pub returns-then-c-alphabet : goal.returns-then-c-alphabet
-returns-then-c-alphabet c = search claim-over
-
-pub returns : goal.returns
-returns c = search claim-counted
+pub returns-then-c-from : goal.returns-then-c-from
+returns-then-c-from c = let low : c.args.c < c.args.alphabet = grind arith in search claim-counted

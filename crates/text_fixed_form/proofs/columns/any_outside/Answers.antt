@@ -1,10 +1,14 @@
-use borrow.Author.Rules.{rules}
-use Rattle.text_fixed_form.proofs.Passes.{any-outside-end, any-outside-found, any-outside-next}
+-- `any_outside` meets its contract: after each column the fold has what the definition gives for the columns so far.
+use Rattle.std.proofs.Common.{◌≡◌, refl, subst, rules}
+use Rattle.std.proofs.lemmas.Fn.{fold_over, slice_gives, fronts}
+use Rattle.std.proofs.lemmas.List.Recursion.{or_push}
+use Rattle.text_fixed_form.specs.Mark.{is_outside, any_outside}
 use Rattle.text_fixed_form.proofs.columns.any_outside.Goals as goal
-use Rattle.text_fixed_form.proofs.columns.any_outside.Goals.{else-is_outside, then-is_outside}
-
-pub loop-i-preserved : goal.loop-i-preserved
-loop-i-preserved c = (search rules, elim c.if-is_outside.branch [ then-is_outside w ↦ search any-outside-found | else-is_outside w ↦ search any-outside-next ])
 
 pub returns : goal.returns
-returns c = search any-outside-end
+unfolding any_outside
+returns c =
+    subst (λ line. c.fold.result ≡ any_outside line) c.iter.ensures.rest
+    (fold_over fronts (λ byte. byte.now) _ (λ columns found. found ≡ any_outside columns) _
+    (λ columns found byte now f called before. let more = or_push any_outside is_outside refl (λ _ _. refl) columns byte.now in search rules)
+    _ _ _ _ (slice_gives c.iter.result) refl c.fold.ensures.ran)

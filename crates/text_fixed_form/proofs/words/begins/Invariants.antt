@@ -1,13 +1,9 @@
--- `begins` meets its contract. The loop's invariant: the letters that are left of the word, compared with the columns that are left
--- of the line, decide the answer. The measure is the number of those columns.
+-- `begins` meets its contract. The loop's invariant: what is left of the word, compared with the columns that are left of the line, decides
+-- the answer.
 use mathlib.Core.Path.{◌≡◌}
-use Prim.Native.Nat.{◌≤◌, ◌-◌}
-use lib.ListN.{length, drop}
+use lib.ListN.{drop}
 use Rattle.text_fixed_form.specs.Mark.{begins, text}
 use Rattle.text_fixed_form.proofs.words.begins.Given as goal
 
-abbrev pub invariant-loop-i : goal.invariant-loop-i
-invariant-loop-i l = (l.i ≤ length l.line) × (l.matched ≤ length l.word) × (begins l.word (text l.line) ≡ begins (drop l.matched l.word) (text (drop l.i l.line)))
-
-abbrev pub decreases-loop-i : goal.decreases-loop-i
-decreases-loop-i l = length l.line - l.i
+abbrev pub invariant-loop-byte : goal.invariant-loop-byte
+invariant-loop-byte l = begins l.word (text l.line) ≡ begins l.left (text (drop l.byte-index l.line))

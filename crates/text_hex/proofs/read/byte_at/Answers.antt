@@ -1,5 +1,4 @@
 -- `text_hex::read::byte_at` meets its contract: the part of the line that it reads is the two digits, whose number is below 256.
-use mathlib.Core.Path.{◌∙◌}
 use borrow.Author.Rules.{rules}
 use Rattle.text_hex.proofs.Lines.{all-digits-part, part-is, part-short, byte_fits}
 use Rattle.text_hex.proofs.read.byte_at.Goals as goal
@@ -9,6 +8,3 @@ number-requires c = search (part-is, part-short, all-digits-part, rules)
 
 pub overflow_cast-result : goal.overflow_cast-result
 overflow_cast-result c = search byte_fits
-
-pub returns : goal.returns
-returns c = search (part-is, ◌∙◌)

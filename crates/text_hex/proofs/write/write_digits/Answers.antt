@@ -1,8 +1,5 @@
-use Rattle.text_hex.proofs.Written.{putting-none, putting-more, put_all}
+use Rattle.text_hex.proofs.Written.{putting-more, put_all}
 use Rattle.text_hex.proofs.write.write_digits.Goals as goal
-
-pub loop-left-init : goal.loop-left-init
-loop-left-init c = search putting-none
 
 pub loop-left-preserved : goal.loop-left-preserved
 loop-left-preserved c = search putting-more

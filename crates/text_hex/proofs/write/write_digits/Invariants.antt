@@ -7,6 +7,3 @@ use Rattle.text_hex.proofs.write.write_digits.Given as goal
 
 abbrev pub invariant-loop-left : goal.invariant-loop-left
 invariant-loop-left l = (l.at + line_digits ≤ length l.initial.out) × Putting line_digits l.initial.out l.at l.number l.out l.left l.rest
-
-abbrev pub decreases-loop-left : goal.decreases-loop-left
-decreases-loop-left l = l.left

@@ -1,8 +1,0 @@
--- `protocol::Command::codes` meets its contract: the table's codes are computed.
-use mathlib.Core.Path.{refl}
-use Rattle.protocol.specs.Commands.{rows}
-use Rattle.protocol.proofs.Command.codes.Goals as goal
-
-pub returns : goal.returns
-unfolding rows
-returns c = refl
