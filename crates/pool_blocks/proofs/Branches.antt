@@ -21,7 +21,8 @@ use Rattle.pool.proofs.Changes.{word-behind, cut-before, cut-behind}
 use Rattle.pool.proofs.Words.{cut_word}
 use Rattle.pool_blocks.specs.Contents.{contents, entry_bytes, entry_list, link_in, below_in, count_in, BranchAt}
 use Rattle.pool_blocks.specs.Moves.{Opened, Closed, CutOff, Joined, SharedOut}
-use Rattle.pool_blocks.specs.Branches.{EntryOpened, EntryRemoved, BranchCut, BranchesJoined, BranchesShared}
+use Rattle.pool_blocks.specs.Nodes.{EntriesCut, EntriesJoined, EntriesShared}
+use Rattle.pool_blocks.specs.Branches.{EntryOpened, EntryRemoved}
 
 -- what an entry's bytes say is what the block says
 
@@ -162,7 +163,7 @@ entry-removed b k p q branch less closed =
     }
 
 pub branch-cut : (b new cut : ℕ) (p q : List ℕ) → BranchAt p b → new < shares p → cut ≤ entries p b → CutOff entry_size b new cut p q
-    → BranchCut b new cut p q
+    → EntriesCut entry_list b new cut p q
 branch-cut b new cut p q branch inside less off =
     let left : BranchAt q b =
     record { inside = omega (arith, branch.inside, off.only.long); fits = omega (arith, off.many, branch.fits) }
@@ -174,10 +175,10 @@ branch-cut b new cut p q branch inside less off =
       only = off.only;
       form = off.form;
       many = off.many;
-      list = entries-are q b left cut _ off.many off.bytes ∙ sym (entries-take p b branch cut less);
+      kept = entries-are q b left cut _ off.many off.bytes ∙ sym (entries-take p b branch cut less);
       new_form = off.new_form;
       new_many = off.new_many;
-      new_list = entries-are q new right (entries p b - cut) _ off.new_many off.new_bytes ∙ sym (entries-drop p b branch cut less);
+      moved = entries-are q new right (entries p b - cut) _ off.new_many off.new_bytes ∙ sym (entries-drop p b branch cut less);
     }
 
 -- two branches
@@ -192,7 +193,7 @@ module _ (left right : ℕ) (p q : List ℕ) (here : BranchAt p left) (there : B
       (chunks-append entry_size (entries p left) (entries p right) (contents entry_size p left) (contents entry_size p right)
       (contents-length p left here))
 
-  pub branches-joined : entries p left + entries p right ≤ most_branch → Joined entry_size left right p q → BranchesJoined left right p q
+  pub branches-joined : entries p left + entries p right ≤ most_branch → Joined entry_size left right p q → EntriesJoined entry_list left right p q
   branches-joined room whole =
       let after : BranchAt q left =
       record { inside = omega (arith, here.inside, whole.only.long); fits = omega (arith, whole.many) }
@@ -201,10 +202,10 @@ module _ (left right : ℕ) (p q : List ℕ) (here : BranchAt p left) (there : B
         only = whole.only;
         form = whole.form;
         many = whole.many;
-        list = entries-are q left after _ _ whole.many whole.bytes ∙ sym entries-both;
+        all = entries-are q left after _ _ whole.many whole.bytes ∙ sym entries-both;
       }
 
-  pub branches-shared : SharedOut entry_size left right p q → BranchesShared left right p q
+  pub branches-shared : SharedOut entry_size left right p q → EntriesShared entry_list left right p q
   unfolding halves
   branches-shared cut =
       let all = entries p left + entries p right in
@@ -236,7 +237,7 @@ module _ (left right : ℕ) (p q : List ℕ) (here : BranchAt p left) (there : B
         left_many = cut.left_many;
         right_form = cut.right_form;
         right_many = cut.right_many;
-        list =
+        parts =
             ap₂ (λ (x y : List (List ℕ)). x ∷ y ∷ [])
             (ap₂ (λ (n : ℕ) (z : List (List ℕ)). take n z) at-half row
             ∙ chunks-take entry_size half (all - half) bytes (omega arith)

@@ -20,7 +20,8 @@ use Rattle.pool.specs.Words.{PutByte}
 use Rattle.pool.proofs.Changes.{only-block, only_then, word-behind}
 use Rattle.pool_blocks.specs.Contents.{contents, LeafAt}
 use Rattle.pool_blocks.specs.Moves.{Opened, Closed, CutOff, Joined, SharedOut}
-use Rattle.pool_blocks.specs.Leaves.{MarkInserted, MarkDeleted, LeafCut, LeavesJoined, LeavesShared}
+use Rattle.pool_blocks.specs.Nodes.{EntriesCut, EntriesJoined, EntriesShared}
+use Rattle.pool_blocks.specs.Leaves.{MarkInserted, MarkDeleted}
 use Rattle.pool_blocks.proofs.Gaps.{gap-filled}
 
 -- a leaf's marks are its entries, one byte each
@@ -106,39 +107,30 @@ module _ (b i : ℕ) (p q : List ℕ) (leaf : LeafAt p b) (one : 1 ≤ i) where
         marks = sym (leaf-contents q b) ∙ closed.bytes ∙ rw (e, one-mul (i - 1), leaf-contents p b);
       }
 
--- room for the marks of two leaves
-pub room-both : (p : List ℕ) (left right : ℕ) → LeafAt p left → LeafAt p right
-    → length (leaf_marks p left) + length (leaf_marks p right) ≤ most_leaf
-    → Room 1 (entries p left + entries p right)
-room-both p left right here there room =
-    record {
-      few = omega (arith, leaf-size p left here, leaf-size p right there);
-      fits = omega (arith, leaf-size p left here, leaf-size p right there);
-    }
+-- between two leaves
 
-pub leaf-cut : (b new cut : ℕ) (p q : List ℕ) → CutOff 1 b new cut p q → LeafCut b new cut p q
+pub leaf-cut : (b new cut : ℕ) (p q : List ℕ) → CutOff 1 b new cut p q → EntriesCut leaf_marks b new cut p q
 leaf-cut b new cut p q off =
     record {
       only = off.only;
       form = off.form;
       many = off.many;
-      marks = sym (leaf-contents q b) ∙ off.bytes ∙ rw (one-mul cut, leaf-contents p b);
+      kept = sym (leaf-contents q b) ∙ off.bytes ∙ rw (one-mul cut, leaf-contents p b);
       new_form = off.new_form;
       new_many = off.new_many;
-      new_marks = sym (leaf-contents q new) ∙ off.new_bytes ∙ rw (one-mul cut, leaf-contents p b);
+      moved = sym (leaf-contents q new) ∙ off.new_bytes ∙ rw (one-mul cut, leaf-contents p b);
     }
 
-pub leaves-joined : (left right : ℕ) (p q : List ℕ) → Joined 1 left right p q → LeavesJoined left right p q
+pub leaves-joined : (left right : ℕ) (p q : List ℕ) → Joined 1 left right p q → EntriesJoined leaf_marks left right p q
 leaves-joined left right p q joined =
     record {
       only = joined.only;
       form = joined.form;
       many = joined.many;
-      marks = sym (leaf-contents q left) ∙ joined.bytes ∙ rw (leaf-contents p left, leaf-contents p right);
+      all = sym (leaf-contents q left) ∙ joined.bytes ∙ rw (leaf-contents p left, leaf-contents p right);
     }
 
-pub leaves-shared : (left right : ℕ) (p q : List ℕ) → LeafAt p left → LeafAt p right
-    → SharedOut 1 left right p q → LeavesShared left right p q
+pub leaves-shared : (left right : ℕ) (p q : List ℕ) → LeafAt p left → LeafAt p right → SharedOut 1 left right p q → EntriesShared leaf_marks left right p q
 unfolding halves
 leaves-shared left right p q here there cut =
     let half = (entries p left + entries p right) / 2 in
@@ -154,7 +146,7 @@ leaves-shared left right p q here there cut =
       left_many = cut.left_many;
       right_form = cut.right_form;
       right_many = cut.right_many;
-      marks =
+      parts =
           ap₂ (λ (x y : List ℕ). x ∷ y ∷ [])
           (ap₂ (λ (n : ℕ) (z : List ℕ). take n z) (sym at-half) (sym row) ∙ sym cut.left_bytes ∙ leaf-contents q left)
           (ap₂ (λ (n : ℕ) (z : List ℕ). drop n z) (sym at-half) (sym row) ∙ sym cut.right_bytes ∙ leaf-contents q right);

@@ -1,5 +1,5 @@
 -- The entries of a block as bytes: all of them in a row, and those of a branch one by one.
-use Rattle.std.specs.Prelude.{◌≡◌, List, ℕ, ◌+◌, ◌*◌, ◌≤◌, ◌<◌, take, drop}
+use Rattle.std.specs.Prelude.{◌≡◌, List, ℕ, zero, suc, ◌+◌, ◌*◌, ◌≤◌, ◌<◌, take, drop}
 use Rattle.geometry.specs.Layout.{form_at, entry_size, entry_marks_at, entry_counts_at, word_size, most_leaf, most_branch}
 use Rattle.lists.specs.Froms.{from}
 use Rattle.pool.specs.Blocks.{entries, entry_at}
@@ -8,6 +8,11 @@ use Rattle.pool.specs.Bytes.{word, shares, block_at}
 -- the bytes of a block's entries, unit bytes each: 1 in a leaf, an entry's size in a branch
 unfoldable pub contents : ℕ → List ℕ → ℕ → List ℕ
 contents unit p b = take (unit * entries p b) (drop (block_at b) p)
+
+-- how many bytes an entry of a block of a level takes
+abbrev pub unit_of : ℕ → ℕ
+unit_of zero = 1
+unit_of (suc h) = entry_size
 
 -- the bytes of entry k of a branch
 abbrev pub entry_bytes : List ℕ → ℕ → ℕ → List ℕ
@@ -51,12 +56,15 @@ pub record Counted (p : List ℕ) (left right here there : ℕ) : Type 0 where
   pub left_many : here ≡ entries p left
   pub right_many : there ≡ entries p right
 
--- a block of the pool with no more entries than a leaf has
-pub record LeafAt (p : List ℕ) (b : ℕ) : Type 0 where
+-- a block of the pool with no more entries than so many
+pub record NodeAt (most : ℕ) (p : List ℕ) (b : ℕ) : Type 0 where
   pub inside : b < shares p
-  pub fits : entries p b ≤ most_leaf
+  pub fits : entries p b ≤ most
 
--- a block of the pool with no more entries than a branch has
-pub record BranchAt (p : List ℕ) (b : ℕ) : Type 0 where
-  pub inside : b < shares p
-  pub fits : entries p b ≤ most_branch
+-- than a leaf has
+abbrev pub LeafAt : List ℕ → ℕ → Type 0
+LeafAt p b = NodeAt most_leaf p b
+
+-- than a branch has
+abbrev pub BranchAt : List ℕ → ℕ → Type 0
+BranchAt p b = NodeAt most_branch p b

@@ -5,9 +5,10 @@ ghost use Rattle.sequence.specs.Definition1.{access, rank, select};
 ghost use Rattle.pool.specs.Blocks.{leaf_marks};
 ghost use Rattle.pool.specs.Bytes.{shares};
 ghost use Rattle.pool_blocks.specs.Contents.{LeafAt};
-ghost use Rattle.pool_blocks.specs.Leaves.{MarkInserted, MarkDeleted, LeafCut, LeavesJoined, LeavesShared};
+ghost use Rattle.pool_blocks.specs.Leaves.{MarkInserted, MarkDeleted};
+ghost use Rattle.pool_blocks.specs.Nodes.{EntriesCut};
 
-use crate::moves::{close_gap, cut_off, join, open_gap, share_out};
+use crate::moves::{close_gap, cut_off, open_gap};
 use geometry::Record;
 use pool::{block_at, put_byte};
 use pool_entries::entry_count;
@@ -86,27 +87,11 @@ pub fn delete_mark(pool: &mut [u8], b: usize, i: usize) -> u8
 }
 
 // Moves the marks behind the first `cut` to the block `new`.
+// `cut_branch` is its twin: one function over a trait would need laws of lists whose proofs stand in specs/, which is longer.
 pub fn cut_leaf(pool: &mut [u8], b: usize, new: usize, cut: usize)
     requires { LeafAt pool.old b × (new < shares pool.old) × (b ≡ new → ⊥)
         × (cut ≤ length (leaf_marks pool.old b)) }
-    ensures { LeafCut b new cut pool.old pool.new }
+    ensures { EntriesCut leaf_marks b new cut pool.old pool.new }
 {
     cut_off(pool, b, new, 1, cut);
-}
-
-// Puts the right leaf's marks behind the left leaf's.
-pub fn join_leaves(pool: &mut [u8], left: usize, right: usize)
-    requires { LeafAt pool.old left × LeafAt pool.old right
-        × (length (leaf_marks pool.old left) + length (leaf_marks pool.old right) ≤ most_leaf) }
-    ensures { LeavesJoined left right pool.old pool.new }
-{
-    join(pool, left, right, 1);
-}
-
-// Shares the marks of two leaves out, half to each.
-pub fn share_leaves(pool: &mut [u8], left: usize, right: usize)
-    requires { LeafAt pool.old left × LeafAt pool.old right × (left ≡ right → ⊥) }
-    ensures { LeavesShared left right pool.old pool.new }
-{
-    share_out(pool, left, right, 1);
 }

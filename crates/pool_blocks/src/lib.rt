@@ -5,4 +5,4 @@ pub mod branch;
 pub mod leaf;
 mod moves;
 
-pub use moves::empty_block;
+pub use moves::{empty_block, join, share_out, unit_of};

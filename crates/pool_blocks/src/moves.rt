@@ -1,10 +1,10 @@
 // Entries of a block moved, `unit` bytes each: said once for leaves and branches.
-ghost use Rattle.std.specs.Prelude.{◌+◌, ◌*◌, ◌≤◌, ◌<◌, min, max};
+ghost use Rattle.std.specs.Prelude.{◌≡◌, ◌+◌, ◌*◌, ◌≤◌, ◌<◌, min, max};
 ghost use Rattle.geometry.specs.Layout.{count_at};
 ghost use Rattle.pool.specs.Blocks.{entries};
 ghost use Rattle.pool.specs.Bytes.{shares, block_at};
 ghost use Rattle.pool.specs.Words.{word_limit, PutWord, Moved};
-ghost use Rattle.pool_blocks.specs.Contents.{Room, Movable, Apart, Counted};
+ghost use Rattle.pool_blocks.specs.Contents.{Room, Movable, Apart, Counted, unit_of};
 ghost use Rattle.pool_blocks.specs.Moves.{PutTrailer, Emptied, Opened, Closed, CutOff, Joined, Refilled, SharedOut};
 
 use geometry::Record;
@@ -83,6 +83,13 @@ pub fn empty_block(pool: &mut [u8], b: usize)
     ensures { Emptied b pool.old pool.new }
 {
     put_trailer(pool, b, 0);
+}
+
+// How many bytes an entry of a block of a level takes: a leaf's are its marks.
+pub fn unit_of(level: usize) -> usize
+    ensures { result ≡ unit_of level }
+{
+    if level == 0 { 1 } else { Record::ENTRY_SIZE }
 }
 
 // Puts the right block's entries behind the left block's.

@@ -9,8 +9,8 @@ use native.Mathlib.Decide.{ℕ_discrete}
 use native.Mathlib.Omega.{arith}
 use borrow.Author.Tests.{eq-eqb, ne_eqb}
 use lib.Dec.{eqb}
-use lib.ListN.{length, get_or, take, drop}
-use lib.Seq.{take_at, drop_at, take-add, drop-drop, get_or-drop, paste}
+use lib.ListN.{length, get_or, take, drop, length-take, length-drop}
+use lib.Seq.{take_all, take_at, drop_at, take-add, drop-drop, get_or-drop, paste}
 use Rattle.std.proofs.Common.{Option, Some, None}
 use Rattle.geometry.specs.Limits.{frame_size}
 use Rattle.lists.specs.Joins.{joined}
@@ -56,15 +56,16 @@ unfolding line_of_bytes
 length-of-bytes bytes = length-of-line (frame_of_answer (answer_of_bytes bytes))
 
 -- an answer was read and put at a place that was kept
-pub answer-put : (at used : ℕ) (out out' answers : List ℕ) (frame : Frame) → get_or out at 0 ≡ kept_byte → frame ≡ frame_of_bytes (take frame_size (drop used answers))
-    → out' ≡ paste out at (line_of frame) line_size
-    → PutsAnswer at used out out' answers (used + frame_size)
+pub answer-put : (at : ℕ) (out out' left answer rest : List ℕ) (frame : Frame) → get_or out at 0 ≡ kept_byte → answer ≡ take frame_size left → rest ≡ drop frame_size left
+    → frame_size ≤ length left → frame ≡ frame_of_bytes (take frame_size answer) → out' ≡ paste out at (line_of frame) line_size
+    → PutsAnswer at out out' left rest
 unfolding line_of_bytes answer_of_bytes
-answer-put at used out out' answers frame kept is put =
+answer-put at out out' left answer rest frame kept first others enough is put =
+    let read : frame ≡ frame_of_bytes (take frame_size left) =
+    is ∙ ap frame_of_bytes (ap (take frame_size) first ∙ take_all frame_size (take frame_size left) (omega (arith, length-take frame_size left)))
+    in
     record {
-      kept =
-          λ _.
-          (refl, put ∙ ap (λ (f : Frame). paste out at (line_of f) line_size) is);
+      kept = λ _. (others, put ∙ ap (λ (f : Frame). paste out at (line_of f) line_size) read);
       other = λ other. absurd (other kept);
     }
 
@@ -89,15 +90,15 @@ module _ (lines : ℕ) (draft answers : List ℕ) where
   unfolding completed
   completed-not-first other = rw other
 
--- The loop: after so many lines, with so many bytes of answers used.
-pub record Completing (lines : ℕ) (before out answers : List ℕ) (line used : ℕ) : Type 0 where
+-- The loop: after so many lines, with these bytes of answers left.
+pub record Completing (lines : ℕ) (before out answers : List ℕ) (line : ℕ) (left : List ℕ) : Type 0 where
   pub few : line ≤ lines
   pub long : length out ≡ length before
-  pub left : used + frame_size * kept_in (lines - line) (drop (line_size * line) out) ≤ length answers
-  pub whole : take (line_size * line) out ++ completed (lines - line) (drop (line_size * line) out) (drop used answers) ≡ completed lines before answers
+  pub enough : frame_size * kept_in (lines - line) (drop (line_size * line) out) ≤ length left
+  pub whole : take (line_size * line) out ++ completed (lines - line) (drop (line_size * line) out) left ≡ completed lines before answers
 
-module _ (lines : ℕ) (before out answers : List ℕ) (line used : ℕ) (room : line_size * lines ≤ length before)
-    (so_far : Completing lines before out answers line used) (below : line < lines) where
+module _ (lines : ℕ) (before out answers : List ℕ) (line : ℕ) (left : List ℕ) (room : line_size * lines ≤ length before)
+    (so_far : Completing lines before out answers line left) (below : line < lines) where
   one_left : lines - line ≡ suc (lines - (line + 1))
   one_left = omega arith
 
@@ -107,33 +108,33 @@ module _ (lines : ℕ) (before out answers : List ℕ) (line used : ℕ) (room :
   next_place : line_size * line + line_size ≡ line_size * (line + 1)
   next_place = omega arith
 
-  left-with : (first : ℕ) → kept_in (suc (lines - (line + 1))) (drop (line_size * line) out) ≡ first + kept_in (lines - (line + 1)) (drop line_size (drop (line_size * line) out))
-      → used + frame_size * (first + kept_in (lines - (line + 1)) (drop line_size (drop (line_size * line) out))) ≤ length answers
-  left-with first is = omega (arith, so_far.left, ap (λ n. kept_in n (drop (line_size * line) out)) one_left, is)
+  enough-with : (first : ℕ) → kept_in (suc (lines - (line + 1))) (drop (line_size * line) out) ≡ first + kept_in (lines - (line + 1)) (drop line_size (drop (line_size * line) out))
+      → frame_size * (first + kept_in (lines - (line + 1)) (drop line_size (drop (line_size * line) out))) ≤ length left
+  enough-with first is = omega (arith, so_far.enough, ap (λ n. kept_in n (drop (line_size * line) out)) one_left, is)
 
   -- the place is there
   pub place-there : line_size * line + line_size ≤ length out
   place-there = omega (arith, so_far.long)
 
   -- where it is kept, an answer is there
-  pub answer-there : get_or out (line_size * line) 0 ≡ kept_byte → used + frame_size ≤ length answers
+  pub answer-there : get_or out (line_size * line) 0 ≡ kept_byte → frame_size ≤ length left
   answer-there kept =
-      omega (arith, left-with 1 (kept-first (lines - (line + 1)) (drop (line_size * line) out) answers (eq-eqb _ _ (first-here ∙ kept))))
+      omega (arith, enough-with 1 (kept-first (lines - (line + 1)) (drop (line_size * line) out) left (eq-eqb _ _ (first-here ∙ kept))))
 
   -- what was to be made of the rest
-  whole_with : (rest : List ℕ) → completed (suc (lines - (line + 1))) (drop (line_size * line) out) (drop used answers) ≡ rest
+  whole_with : (rest : List ℕ) → completed (suc (lines - (line + 1))) (drop (line_size * line) out) left ≡ rest
       → take (line_size * line) out ++ rest ≡ completed lines before answers
   whole_with rest is =
-      ap (λ l. take (line_size * line) out ++ l) (sym is ∙ ap (λ n. completed n (drop (line_size * line) out) (drop used answers)) (sym one_left))
+      ap (λ l. take (line_size * line) out ++ l) (sym is ∙ ap (λ n. completed n (drop (line_size * line) out) left) (sym one_left))
       ∙ so_far.whole
 
-  module _ (out' : List ℕ) (result : ℕ) (puts : PutsAnswer (line_size * line) used out out' answers result) where
-    kept_step : get_or out (line_size * line) 0 ≡ kept_byte → Completing lines before out' answers (line + 1) result
+  module _ (out' rest : List ℕ) (puts : PutsAnswer (line_size * line) out out' left rest) where
+    kept_step : get_or out (line_size * line) 0 ≡ kept_byte → Completing lines before out' answers (line + 1) rest
     kept_step kept =
         let at : ℕ = line_size * line in
-        let put : List ℕ = line_of_bytes (take frame_size (drop used answers)) in
+        let put : List ℕ = line_of_bytes (take frame_size left) in
         let is : out' ≡ paste out at put line_size = (puts.kept kept).1 in
-        let long : length put ≡ line_size = length-of-bytes (take frame_size (drop used answers)) in
+        let long : length put ≡ line_size = length-of-bytes (take frame_size left) in
         let fits : line_size * (line + 1) ≤ length out = omega (arith, place-there) in
         let test : eqb (get_or (drop at out) 0 0) kept_byte ≡ true = eq-eqb _ _ (first-here ∙ kept) in
         let front : take (line_size * (line + 1)) out' ≡ take at out ++ put =
@@ -144,20 +145,18 @@ module _ (lines : ℕ) (before out answers : List ℕ) (line used : ℕ) (room :
         ∙ ap (λ k. drop k out) (sym next_place)
         ∙ sym (drop-drop line_size at out)
         in
-        let used-then : drop result answers ≡ drop frame_size (drop used answers) =
-        ap (λ k. drop k answers) (puts.kept kept).0 ∙ sym (drop-drop frame_size used answers)
-        in
+        let rest-is : rest ≡ drop frame_size left = (puts.kept kept).0 in
         record {
           few = omega arith;
           long = long-with out out' put at line_size (line_size * (line + 1)) next_place long fits is ∙ so_far.long;
-          left = rw back (omega (arith, (puts.kept kept).0, left-with 1 (kept-first (lines - (line + 1)) (drop at out) answers test)));
+          enough = rw (back, rest-is) (omega (arith, length-drop frame_size left, enough-with 1 (kept-first (lines - (line + 1)) (drop at out) left test)));
           whole =
-              rw (front, back, used-then, append_assoc (take at out) put (completed (lines - (line + 1)) (drop line_size (drop at out)) (drop frame_size (drop used answers))))
-              (whole_with (put ++ completed (lines - (line + 1)) (drop line_size (drop at out)) (drop frame_size (drop used answers)))
-              (completed-first (lines - (line + 1)) (drop at out) (drop used answers) test));
+              rw (front, back, rest-is, append_assoc (take at out) put (completed (lines - (line + 1)) (drop line_size (drop at out)) (drop frame_size left)))
+              (whole_with (put ++ completed (lines - (line + 1)) (drop line_size (drop at out)) (drop frame_size left))
+              (completed-first (lines - (line + 1)) (drop at out) left test));
         }
 
-    other_step : (get_or out (line_size * line) 0 ≡ kept_byte → ⊥) → Completing lines before out' answers (line + 1) result
+    other_step : (get_or out (line_size * line) 0 ≡ kept_byte → ⊥) → Completing lines before out' answers (line + 1) rest
     other_step other =
         let at : ℕ = line_size * line in
         let is : out' ≡ out = (puts.other other).1 in
@@ -168,30 +167,30 @@ module _ (lines : ℕ) (before out answers : List ℕ) (line used : ℕ) (room :
         let back : drop (line_size * (line + 1)) out' ≡ drop line_size (drop at out) =
         ap (λ k. drop k out') (sym next_place) ∙ ap (drop (at + line_size)) is ∙ sym (drop-drop line_size at out)
         in
-        let used-then : drop result answers ≡ drop used answers = ap (λ k. drop k answers) (puts.other other).0 in
+        let rest-is : rest ≡ left = (puts.other other).0 in
         record {
           few = omega arith;
           long = ap length is ∙ so_far.long;
-          left = rw back (omega (arith, (puts.other other).0, left-with 0 (kept-not-first (lines - (line + 1)) (drop at out) answers test)));
+          enough = rw (back, rest-is) (omega (arith, enough-with 0 (kept-not-first (lines - (line + 1)) (drop at out) left test)));
           whole =
-              rw (front, back, used-then, append_assoc (take at out) (take line_size (drop at out)) (completed (lines - (line + 1)) (drop line_size (drop at out)) (drop used answers)))
-              (whole_with (take line_size (drop at out) ++ completed (lines - (line + 1)) (drop line_size (drop at out)) (drop used answers))
-              (completed-not-first (lines - (line + 1)) (drop at out) (drop used answers) test));
+              rw (front, back, rest-is, append_assoc (take at out) (take line_size (drop at out)) (completed (lines - (line + 1)) (drop line_size (drop at out)) left))
+              (whole_with (take line_size (drop at out) ++ completed (lines - (line + 1)) (drop line_size (drop at out)) left)
+              (completed-not-first (lines - (line + 1)) (drop at out) left test));
         }
 
-    by_place : Dec (get_or out (line_size * line) 0 ≡ kept_byte) → Completing lines before out' answers (line + 1) result
+    by_place : Dec (get_or out (line_size * line) 0 ≡ kept_byte) → Completing lines before out' answers (line + 1) rest
     by_place (yes kept) = kept_step kept
     by_place (no other) = other_step other
 
     -- one line more
-    pub completing-more : Completing lines before out' answers (line + 1) result
+    pub completing-more : Completing lines before out' answers (line + 1) rest
     completing-more = by_place (ℕ_discrete (get_or out (line_size * line) 0) kept_byte)
 
 -- all lines
-pub completing-all : (lines : ℕ) (before out answers : List ℕ) (line used : ℕ) → Completing lines before out answers line used → lines ≤ line
+pub completing-all : (lines : ℕ) (before out answers : List ℕ) (line : ℕ) (left : List ℕ) → Completing lines before out answers line left → lines ≤ line
     → Completes lines before out answers
 unfolding completed
-completing-all lines before out answers line used so_far all =
+completing-all lines before out answers line left so_far all =
     let none : lines - line ≡ 0 = omega arith in
     let same : line ≡ lines = omega arith in
     record {
@@ -199,6 +198,6 @@ completing-all lines before out answers line used so_far all =
       whole =
           ap (λ k. take (line_size * k) out) (sym same)
           ∙ sym (append-nil (take (line_size * line) out))
-          ∙ ap (λ n. take (line_size * line) out ++ completed n (drop (line_size * line) out) (drop used answers)) (sym none)
+          ∙ ap (λ n. take (line_size * line) out ++ completed n (drop (line_size * line) out) left) (sym none)
           ∙ so_far.whole;
     }

@@ -90,11 +90,11 @@ completed (suc lines) draft answers =
     (line_of_bytes (take frame_size answers) ++ completed lines (drop line_size draft) (drop frame_size answers))
     (take line_size draft ++ completed lines (drop line_size draft) answers)
 
--- one place: where it was kept, the next eight bytes of answers stand there as a line
-pub record PutsAnswer (at used : ℕ) (out out' answers : List ℕ) (result : ℕ) : Type 0 where
+-- one place: where it was kept, the first eight bytes of the answers that are left stand there as a line, and the others are left
+pub record PutsAnswer (at : ℕ) (out out' left rest : List ℕ) : Type 0 where
   pub kept : get_or out at 0 ≡ kept_byte
-      → (result ≡ used + frame_size) × (out' ≡ paste out at (line_of_bytes (take frame_size (drop used answers))) line_size)
-  pub other : (get_or out at 0 ≡ kept_byte → ⊥) → (result ≡ used) × (out' ≡ out)
+      → (rest ≡ drop frame_size left) × (out' ≡ paste out at (line_of_bytes (take frame_size left)) line_size)
+  pub other : (get_or out at 0 ≡ kept_byte → ⊥) → (rest ≡ left) × (out' ≡ out)
 
 -- all places
 pub record Completes (lines : ℕ) (out out' answers : List ℕ) : Type 0 where

@@ -12,7 +12,8 @@ use protocol::Frame;
 use text_hex::{LINE_SIZE, read_line, write_line};
 use text_lines::{Gathered, Gathering, first_bytes, gather};
 
-// The lines that have been read from a chunk, beside the output with their drafts and the commands of their frames.
+// The lines that have been read from a chunk, beside the output with their drafts and the commands of their frames. The caller lends both
+// buffers, since no crate allocates, and goes on to use them, so they are no fields.
 #[derive(Clone, Copy)]
 pub struct Batch {
     // how many bytes were taken from the chunk's front
@@ -105,23 +106,24 @@ pub fn complete(out: &mut [u8], lines: usize, answers: &[u8])
     requires { (line_size * lines ≤ length out.old) × (frame_size * kept_in lines out.old ≤ length answers.now) }
     ensures { Completes lines out.old out.new answers.now }
 {
-    let mut used = 0;
+    let mut left = answers;
     // not over `chunks_exact_mut`, after whose writes std says nothing of the elements
     for line in 0..lines {
-        used = put_answer(out, LINE_SIZE * line, answers, used);
+        left = put_answer(out, LINE_SIZE * line, left);
     }
 }
 
-// Puts the next answer at a place, if that was kept for one. Answers how many bytes of answers have been used then.
-fn put_answer(out: &mut [u8], at: usize, answers: &[u8], used: usize) -> usize
-    requires { (at + line_size ≤ length out.old) × (get_or out.old at 0 ≡ kept_byte → used + frame_size ≤ length answers.now) }
-    ensures { PutsAnswer at used out.old out.new answers.now result }
+// Puts the first of the answers that are left at a place, if that was kept for one. Answers those that are left then.
+fn put_answer<'a>(out: &mut [u8], at: usize, left: &'a [u8]) -> &'a [u8]
+    requires { (at + line_size ≤ length out.old) × (get_or out.old at 0 ≡ kept_byte → frame_size ≤ length left.now) }
+    ensures { PutsAnswer at out.old out.new left.now result.now }
 {
     if out[at] != KEPT {
-        return used;
+        return left;
     }
-    write_line(out, at, Frame::decode(answers, used));
-    used + Record::FRAME_SIZE
+    let (answer, rest) = left.split_at(Record::FRAME_SIZE);
+    write_line(out, at, Frame::decode(answer, 0));
+    rest
 }
 
 // what is written for a frame until its answer is known

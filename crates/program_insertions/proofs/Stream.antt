@@ -1,5 +1,5 @@
 -- What each step leaves of `FileFollows`. A line that ends brings its frame, by the laws on one line more; bytes that end none are gathered.
-use mathlib.Core.Bool.{Bool, true}
+use mathlib.Core.Bool.{Bool, true, false}
 use mathlib.Core.Path.{◌≡◌, refl, sym, ap, ◌∙◌}
 use mathlib.Core.List.{List, [], ◌∷◌, ◌++◌, append-nil, append_assoc}
 use Prim.Native.Nat.{ℕ, zero, suc, ◌+◌, ◌-◌, ◌≤◌, ◌<◌, min}
@@ -18,7 +18,6 @@ use Rattle.text_hex.proofs.Written.{length-of-line}
 use Rattle.text_lines.specs.Lines.{Stands, Holds, Gathers, Finishes, ended, left, trim, piece}
 use Rattle.text_lines.specs.declared.Gathered.{Gathered}
 use Rattle.text_lines.specs.declared.Gathering.TheVariants.{Whole, Unfinished}
-use Rattle.text_lines.proofs.Chunks.{rest_some, step-within, step_less}
 use Rattle.text_lines.proofs.Held.{lines-all-ended, lines-one-open}
 use Rattle.text_lines.proofs.Taken.{line-more, nothing_left, no-line-more, more_left}
 use Rattle.protocol.specs.Frames.{frame_of_command}

@@ -22,13 +22,14 @@ use Rattle.pool.specs.Changes.{Only}
 use Rattle.pool.specs.Trees.{shape_at, blocks_at}
 use Rattle.pool.proofs.Blocks.{length-leaf}
 use Rattle.pool.proofs.Changes.{only_wider}
-use Rattle.pool_blocks.proofs.Branches.{entries-length}
-use Rattle.pool_blocks.specs.Branches.{BranchesJoined, BranchesShared}
-use Rattle.pool_blocks.specs.Contents.{entry_list}
-use Rattle.pool_blocks.specs.Leaves.{LeavesJoined, LeavesShared}
+use Rattle.pool_blocks.proofs.Branches.{entries-length, branches-joined, branches-shared}
+use Rattle.pool_blocks.specs.Contents.{entry_list, unit_of, Room, Apart}
+use Rattle.pool_blocks.specs.Moves.{Joined, SharedOut}
+use Rattle.pool_blocks.specs.Nodes.{EntriesJoined, EntriesShared}
+use Rattle.pool_blocks.proofs.Leaves.{leaves-joined, leaves-shared}
 use Rattle.tree_splits.proofs.GoodEntries.{GoodEntry, shape_in, blocks_in, below-good, good-below, shape-entries, blocks-entries}
 use Rattle.tree_splits.proofs.Pieces.{map-chop}
-use Rattle.tree_splits.proofs.SoundBlocks.{block_written}
+use Rattle.tree_splits.proofs.SoundBlocks.{block_written, leaf-at, branch-at}
 use Rattle.tree_splits.proofs.Pieces.{map-chop}
 use Rattle.tree_delete.specs.Mends.{TwoNodes, NodesJoined, NodesShared}
 use Rattle.tree_delete.proofs.KeptTrees.{kept-entries}
@@ -45,7 +46,7 @@ count-two : (x : ℕ) (xs ys : List ℕ) → count x (xs ++ (ys ++ [])) ≡ coun
 count-two x xs ys = rw append-nil (count-additive x xs ys)
 
 -- two nodes are two blocks
-pub nodes-other : (p : List ℕ) (h left right : ℕ) → TwoNodes p h left right → left ≡ right → ⊥
+nodes-other : (p : List ℕ) (h left right : ℕ) → TwoNodes p h left right → left ≡ right → ⊥
 unfolding count
 nodes-other p zero left right two e = omega (arith, two.apart left, is_mark-same left left refl, is_mark-same left right (sym e))
 nodes-other p (suc h) left right two e = omega (arith, two.apart left, is_mark-same left left refl, is_mark-same left right (sym e))
@@ -58,17 +59,17 @@ module _ (p q : List ℕ) (left right : ℕ) (two : TwoNodes p zero left right) 
   abbrev together : List ℕ
   together = leaf_marks p left ++ leaf_marks p right
 
-  pub leaves-join : entries p left + entries p right ≤ most_leaf → LeavesJoined left right p q → NodesJoined zero left right p q
+  leaves-join : entries p left + entries p right ≤ most_leaf → EntriesJoined leaf_marks left right p q → NodesJoined zero left right p q
   unfolding count
   leaves-join fit join =
       record {
         shapes =
-            ap (λ (x : List ℕ). x ∷ []) join.marks
+            ap (λ (x : List ℕ). x ∷ []) join.all
             ∙ sym (chop-fits most_leaf together (omega (arith, length-append (leaf_marks p left) (leaf_marks p right), sizes)));
         sound = (
           (
             block_written two.first.0 join.only.long join.form join.many two.enough fit,
-            rw join.marks (all_append (λ x. x < most_alphabet) (leaf_marks p left) (leaf_marks p right) two.first.1 two.second.1),
+            rw join.all (all_append (λ x. x < most_alphabet) (leaf_marks p left) (leaf_marks p right) two.first.1 two.second.1),
           ),
           tt,
         );
@@ -76,14 +77,14 @@ module _ (p q : List ℕ) (left right : ℕ) (two : TwoNodes p zero left right) 
         only = only_wider _ (λ x e. inl e) join.only;
       }
 
-  pub leaves-share : most_leaf < entries p left + entries p right → LeavesShared left right p q → NodesShared zero left right p q
+  leaves-share : most_leaf < entries p left + entries p right → EntriesShared leaf_marks left right p q → NodesShared zero left right p q
   unfolding count halves
   leaves-share more share =
       let all : All (λ x. x < most_alphabet) together = all_append (λ x. x < most_alphabet) (leaf_marks p left) (leaf_marks p right) two.first.1 two.second.1 in
-      let front : leaf_marks q left ≡ take (middle together) together = sym (first-is _ _ _ _ share.marks) in
-      let back : leaf_marks q right ≡ drop (middle together) together = sym (second_is _ _ _ _ share.marks) in
+      let front : leaf_marks q left ≡ take (middle together) together = sym (first-is _ _ _ _ share.parts) in
+      let back : leaf_marks q right ≡ drop (middle together) together = sym (second_is _ _ _ _ share.parts) in
       record {
-        shapes = sym (chop-halves most_leaf together (omega (arith, length-append (leaf_marks p left) (leaf_marks p right), sizes)) ∙ share.marks);
+        shapes = sym (chop-halves most_leaf together (omega (arith, length-append (leaf_marks p left) (leaf_marks p right), sizes)) ∙ share.parts);
         sound = (
           (
             block_written two.first.0 share.only.long share.left_form share.left_many (omega arith) (omega (arith, two.first.0.fits, two.second.0.fits)),
@@ -150,11 +151,11 @@ module _ (p q : List ℕ) (h left right : ℕ) (two : TwoNodes p (suc h) left ri
     same-under : (x : ℕ) → count x (joined (blocks_in q h) all-entries) ≡ under x all-entries
     same-under x = ap (count x) (kept-entries p q only h all-entries entries-good apart-both).blocks
 
-  pub branches-join : entries p left + entries p right ≤ most_branch → BranchesJoined left right p q → NodesJoined (suc h) left right p q
+  branches-join : entries p left + entries p right ≤ most_branch → EntriesJoined entry_list left right p q → NodesJoined (suc h) left right p q
   unfolding count
   branches-join fit join =
       let only : Only (λ x. (x ≡ left) ⊎ (x ≡ right)) p q = only_wider _ (λ x e. inl e) join.only in
-      let list : entry_list q left ≡ all-entries = join.list in
+      let list : entry_list q left ≡ all-entries = join.all in
       record {
         shapes =
             ap (λ x. x ∷ []) (shape-entries q h left ∙ ap (map (shape_in q h)) list ∙ same-shapes only)
@@ -173,17 +174,17 @@ module _ (p q : List ℕ) (h left right : ℕ) (two : TwoNodes p (suc h) left ri
         only = only;
       }
 
-  pub branches-share : most_branch < entries p left + entries p right → BranchesShared left right p q → NodesShared (suc h) left right p q
+  branches-share : most_branch < entries p left + entries p right → EntriesShared entry_list left right p q → NodesShared (suc h) left right p q
   unfolding count halves
   branches-share more share =
       let only : Only (λ x. (x ≡ left) ⊎ (x ≡ right)) p q = share.only in
       let half : ℕ = middle all-entries in
-      let front : entry_list q left ≡ take half all-entries = sym (first-is _ _ _ _ share.list) in
-      let back : entry_list q right ≡ drop half all-entries = sym (second_is _ _ _ _ share.list) in
+      let front : entry_list q left ≡ take half all-entries = sym (first-is _ _ _ _ share.parts) in
+      let back : entry_list q right ≡ drop half all-entries = sym (second_is _ _ _ _ share.parts) in
       record {
         shapes =
             ap₂ (λ x y. x ∷ y ∷ []) (shape-entries q h left) (shape-entries q h right)
-            ∙ ap (map (map (shape_in q h))) (sym (chop-halves most_branch all-entries (omega (arith, many-entries)) ∙ share.list))
+            ∙ ap (map (map (shape_in q h))) (sym (chop-halves most_branch all-entries (omega (arith, many-entries)) ∙ share.parts))
             ∙ map-chop (shape_in q h) most_branch all-entries
             ∙ ap (chop most_branch) (same-shapes only);
         sound = (
@@ -210,35 +211,35 @@ module _ (p q : List ℕ) (h left right : ℕ) (two : TwoNodes p (suc h) left ri
         only = only;
       }
 
--- By level, as the code tests it.
-module _ (p : List ℕ) (left right : ℕ) where
-  pub leaves-fit : (level : ℕ) → level ≡ 0 → TwoNodes p level left right → entries p left + entries p right ≤ most one_to_a_byte level
-      → length (leaf_marks p left) + length (leaf_marks p right) ≤ most_leaf
-  leaves-fit zero e two fit = omega (arith, sizes p p left right two)
-  leaves-fit (suc h) e two fit = absurd (omega arith)
+-- By level: the entries are moved as bytes, so many to an entry as the level says.
 
-  pub branches-fit : (level : ℕ) → (level ≡ 0 → ⊥) → TwoNodes p level left right → entries p left + entries p right ≤ most one_to_a_byte level
-      → entries p left + entries p right ≤ most_branch
-  branches-fit zero some two fit = absurd (some refl)
-  branches-fit (suc h) some two fit = fit
+-- so many entries have room in a block where a node of the level may have them
+node-room : (h many : ℕ) → many ≤ most one_to_a_byte h → Room (unit_of h) many
+node-room zero many few = record { few = omega (arith, few); fits = omega (arith, few) }
+node-room (suc h) many few = record { few = omega (arith, few); fits = omega (arith, few) }
 
-  module _ (q : List ℕ) where
-    pub joined-leaves : (level : ℕ) → level ≡ 0 → TwoNodes p level left right → entries p left + entries p right ≤ most one_to_a_byte level
-        → LeavesJoined left right p q → NodesJoined level left right p q
-    joined-leaves zero e two fit join = leaves-join p q left right two fit join
-    joined-leaves (suc h) e two fit join = absurd (omega arith)
+module _ (p : List ℕ) (left right level : ℕ) (two : TwoNodes p level left right) where
+  pub nodes-fit : entries p left + entries p right ≤ most one_to_a_byte level → Room (unit_of level) (entries p left + entries p right)
+  nodes-fit fit = node-room level _ fit
 
-    pub joined-branches : (level : ℕ) → (level ≡ 0 → ⊥) → TwoNodes p level left right → entries p left + entries p right ≤ most one_to_a_byte level
-        → BranchesJoined left right p q → NodesJoined level left right p q
-    joined-branches zero some two fit join = absurd (some refl)
-    joined-branches (suc h) some two fit join = branches-join p q h left right two fit join
+  pub nodes-apart : Apart p left right
+  nodes-apart = record { left_inside = two.first.0.inside; right_inside = two.second.0.inside; apart = nodes-other p level left right two }
 
-    pub shared-leaves : (level : ℕ) → level ≡ 0 → TwoNodes p level left right → most one_to_a_byte level < entries p left + entries p right
-        → LeavesShared left right p q → NodesShared level left right p q
-    shared-leaves zero e two more share = leaves-share p q left right two more share
-    shared-leaves (suc h) e two more share = absurd (omega arith)
+  pub left-fits : Room (unit_of level) (entries p left)
+  left-fits = node-room level _ two.first.0.fits
 
-    pub shared-branches : (level : ℕ) → (level ≡ 0 → ⊥) → TwoNodes p level left right → most one_to_a_byte level < entries p left + entries p right
-        → BranchesShared left right p q → NodesShared level left right p q
-    shared-branches zero some two more share = absurd (some refl)
-    shared-branches (suc h) some two more share = branches-share p q h left right two more share
+  pub right-fits : Room (unit_of level) (entries p right)
+  right-fits = node-room level _ two.second.0.fits
+
+pub nodes-joined : (p q : List ℕ) (left right level : ℕ) → TwoNodes p level left right → entries p left + entries p right ≤ most one_to_a_byte level
+    → Joined (unit_of level) left right p q → NodesJoined level left right p q
+nodes-joined p q left right zero two fit joined = leaves-join p q left right two fit (leaves-joined left right p q joined)
+nodes-joined p q left right (suc h) two fit joined =
+    branches-join p q h left right two fit (branches-joined left right p q (branch-at p 1 (suc h) left two.first.0 (λ e. omega arith)) (branch-at p 1 (suc h) right two.second.0 (λ e. omega arith)) fit joined)
+
+pub nodes-shared : (p q : List ℕ) (left right level : ℕ) → TwoNodes p level left right → most one_to_a_byte level < entries p left + entries p right
+    → SharedOut (unit_of level) left right p q → NodesShared level left right p q
+nodes-shared p q left right zero two more shared =
+    leaves-share p q left right two more (leaves-shared left right p q (leaf-at p 1 zero left two.first.0 refl) (leaf-at p 1 zero right two.second.0 refl) shared)
+nodes-shared p q left right (suc h) two more shared =
+    branches-share p q h left right two more (branches-shared left right p q (branch-at p 1 (suc h) left two.first.0 (λ e. omega arith)) (branch-at p 1 (suc h) right two.second.0 (λ e. omega arith)) shared)

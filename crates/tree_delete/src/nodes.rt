@@ -4,8 +4,7 @@ ghost use Rattle.shape.specs.Sizes.{one_to_a_byte, most};
 ghost use Rattle.pool.specs.Blocks.{entries};
 ghost use Rattle.tree_delete.specs.Mends.{TwoNodes, NodesJoined, NodesShared};
 
-use pool_blocks::branch::{join_branches, share_branches};
-use pool_blocks::leaf::{join_leaves, share_leaves};
+use pool_blocks::{join, share_out, unit_of};
 
 // Puts the right node's entries behind the left one's.
 pub fn join_nodes(pool: &mut [u8], level: usize, left: usize, right: usize)
@@ -13,11 +12,7 @@ pub fn join_nodes(pool: &mut [u8], level: usize, left: usize, right: usize)
     requires fit { entries pool.old left + entries pool.old right ≤ most one_to_a_byte level }
     ensures { NodesJoined level left right pool.old pool.new }
 {
-    if level == 0 {
-        join_leaves(pool, left, right);
-    } else {
-        join_branches(pool, left, right);
-    }
+    join(pool, left, right, unit_of(level));
 }
 
 // Shares the entries of two nodes out, half to each.
@@ -26,9 +21,5 @@ pub fn share_nodes(pool: &mut [u8], level: usize, left: usize, right: usize)
     requires many { most one_to_a_byte level < entries pool.old left + entries pool.old right }
     ensures { NodesShared level left right pool.old pool.new }
 {
-    if level == 0 {
-        share_leaves(pool, left, right);
-    } else {
-        share_branches(pool, left, right);
-    }
+    share_out(pool, left, right, unit_of(level));
 }

@@ -13,7 +13,7 @@ use Rattle.pool.specs.Changes.{SameBlock}
 use Rattle.pool.proofs.Changes.{only_then, only_wider}
 use Rattle.pool.proofs.TreesKept.{same_byte}
 use Rattle.pool_blocks.proofs.Branches.{entries-length}
-use Rattle.pool_blocks.specs.Branches.{BranchCut}
+use Rattle.pool_blocks.specs.Nodes.{EntriesCut}
 use Rattle.pool_blocks.specs.Contents.{entry_list}
 use Rattle.pool_entries.specs.declared.Summary.{Summary}
 use Rattle.tree_splits.specs.Entries.{put_at}
@@ -47,7 +47,7 @@ module _ {A : Type 0} (e : A) where
 
 module _ (b new k child : ℕ) (summary : Summary) (p q : List ℕ) (within : b < shares p) (full : entries p b ≡ most_branch) (inside : new < shares p) where
   module _ (other : b ≡ new → ⊥) (r : List ℕ) where
-    pub split-low : BranchCut b new (least_branch - 1) p q → k < least_branch → EntryPut b k child summary q r → BranchSplit b new k child summary p r
+    pub split-low : EntriesCut entry_list b new (least_branch - 1) p q → k < least_branch → EntryPut b k child summary q r → BranchSplit b new k child summary p r
     split-low cut low put =
         let same : SameBlock new q r = put.only.others new (λ e. other (sym e)) in
         let three : length (entry_list p b) ≡ most_branch = entries-length p b ∙ full in
@@ -58,12 +58,12 @@ module _ (b new k child : ℕ) (summary : Summary) (p q : List ℕ) (within : b 
           form = put.form ∙ cut.form;
           new_form = same_byte q r new same _ (omega arith) (omega arith) ∙ cut.new_form;
           lists =
-              ap₂ (λ (x y : List (List ℕ)). x ∷ y ∷ []) (put.list ∙ ap (put_at k put.entry) cut.list)
-              (same-entry-list q r new same put.only.long (omega (arith, cut.new_many)) ∙ cut.new_list)
+              ap₂ (λ (x y : List (List ℕ)). x ∷ y ∷ []) (put.list ∙ ap (put_at k put.entry) cut.kept)
+              (same-entry-list q r new same put.only.long (omega (arith, cut.new_many)) ∙ cut.moved)
               ∙ low_halves put.entry (entry_list p b) k three low;
         }
 
-    pub split-high : BranchCut b new least_branch p q → least_branch ≤ k → k ≤ most_branch → EntryPut new (k - least_branch) child summary q r
+    pub split-high : EntriesCut entry_list b new least_branch p q → least_branch ≤ k → k ≤ most_branch → EntryPut new (k - least_branch) child summary q r
         → BranchSplit b new k child summary p r
     split-high cut high last put =
         let same : SameBlock b q r = put.only.others b other in
@@ -76,7 +76,7 @@ module _ (b new k child : ℕ) (summary : Summary) (p q : List ℕ) (within : b 
           new_form = put.form ∙ cut.new_form;
           lists =
               ap₂ (λ (x y : List (List ℕ)). x ∷ y ∷ [])
-              (same-entry-list q r b same put.only.long (omega (arith, cut.many)) ∙ cut.list)
-              (put.list ∙ ap (put_at (k - least_branch) put.entry) cut.new_list)
+              (same-entry-list q r b same put.only.long (omega (arith, cut.many)) ∙ cut.kept)
+              (put.list ∙ ap (put_at (k - least_branch) put.entry) cut.moved)
               ∙ high-halves put.entry (entry_list p b) k three high last;
         }

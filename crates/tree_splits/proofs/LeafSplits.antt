@@ -17,12 +17,13 @@ use Rattle.pool.proofs.Changes.{only_then, only_wider}
 use Rattle.pool.proofs.TreesKept.{same_entries, same-leaf, same_byte}
 use Rattle.pool_blocks.proofs.Leaves.{leaf-size}
 use Rattle.pool_blocks.specs.Contents.{LeafAt}
-use Rattle.pool_blocks.specs.Leaves.{MarkInserted, LeafCut}
+use Rattle.pool_blocks.specs.Leaves.{MarkInserted}
+use Rattle.pool_blocks.specs.Nodes.{EntriesCut}
 use Rattle.tree_splits.specs.Inserts.{LeafSplit}
 
 module _ (b new : ℕ) (p q : List ℕ) (leaf : LeafAt p b) (full : length (leaf_marks p b) ≡ most_leaf) (inside : new < shares p) where
   -- cut one short of the half, which leaves room on the left
-  module _ (cut : LeafCut b new (least_leaf - 1) p q) where
+  module _ (cut : EntriesCut leaf_marks b new (least_leaf - 1) p q) where
     pub left-leaf : LeafAt q b
     left-leaf = record { inside = omega (arith, leaf.inside, cut.only.long); fits = omega (arith, cut.many) }
 
@@ -33,7 +34,7 @@ module _ (b new : ℕ) (p q : List ℕ) (leaf : LeafAt p b) (full : length (leaf
     left-place i low = omega (arith, leaf-size q b left-leaf, cut.many)
 
   -- cut at the half, which leaves room on the right
-  module _ (cut : LeafCut b new least_leaf p q) where
+  module _ (cut : EntriesCut leaf_marks b new least_leaf p q) where
     right-many : entries q new ≡ least_leaf - 1
     right-many = omega (arith, cut.new_many, leaf-size p b leaf)
 
@@ -48,15 +49,15 @@ module _ (b new : ℕ) (p q : List ℕ) (leaf : LeafAt p b) (full : length (leaf
 
 module _ (b new i c : ℕ) (p q : List ℕ) (leaf : LeafAt p b) (full : length (leaf_marks p b) ≡ most_leaf) (inside : new < shares p) where
   module _ (other : b ≡ new → ⊥) (r : List ℕ) where
-    pub split-low : LeafCut b new (least_leaf - 1) p q → 1 ≤ i → i ≤ least_leaf → MarkInserted b i c q r → LeafSplit b new i c p r
+    pub split-low : EntriesCut leaf_marks b new (least_leaf - 1) p q → 1 ≤ i → i ≤ least_leaf → MarkInserted b i c q r → LeafSplit b new i c p r
     split-low cut one low put =
         let same : SameBlock new q r = put.only.others new (λ e. other (sym e)) in
         let fits : entries q new ≡ least_leaf = omega (arith, cut.new_many, leaf-size p b leaf) in
         record {
           only = only_then cut.only (only_wider _ (λ x e. inl e) put.only);
           marks =
-              ap₂ (λ (x y : List ℕ). x ∷ y ∷ []) (put.marks ∙ ap (insert c i) cut.marks)
-              (same-leaf q r new same put.only.long (omega arith) ∙ cut.new_marks)
+              ap₂ (λ (x y : List ℕ). x ∷ y ∷ []) (put.marks ∙ ap (insert c i) cut.kept)
+              (same-leaf q r new same put.only.long (omega arith) ∙ cut.moved)
               ∙ sym (full-leaf-low one_to_a_byte one_to_a_byte-proper c i (leaf_marks p b) full one low);
           form = put.form ∙ cut.form;
           many = omega (arith, put.many, cut.many);
@@ -64,14 +65,14 @@ module _ (b new i c : ℕ) (p q : List ℕ) (leaf : LeafAt p b) (full : length (
           new_many = same_entries q r new same ∙ fits;
         }
 
-    pub split-high : LeafCut b new least_leaf p q → least_leaf < i → MarkInserted new (i - least_leaf) c q r → LeafSplit b new i c p r
+    pub split-high : EntriesCut leaf_marks b new least_leaf p q → least_leaf < i → MarkInserted new (i - least_leaf) c q r → LeafSplit b new i c p r
     split-high cut high put =
         let same : SameBlock b q r = put.only.others b other in
         record {
           only = only_then cut.only (only_wider _ (λ x e. inr e) put.only);
           marks =
-              ap₂ (λ (x y : List ℕ). x ∷ y ∷ []) (same-leaf q r b same put.only.long (omega (arith, cut.many)) ∙ cut.marks)
-              (put.marks ∙ ap (insert c (i - least_leaf)) cut.new_marks)
+              ap₂ (λ (x y : List ℕ). x ∷ y ∷ []) (same-leaf q r b same put.only.long (omega (arith, cut.many)) ∙ cut.kept)
+              (put.marks ∙ ap (insert c (i - least_leaf)) cut.moved)
               ∙ sym (full-leaf-high one_to_a_byte one_to_a_byte-proper c i (leaf_marks p b) full high);
           form = same_byte q r b same _ (omega arith) (omega arith) ∙ cut.form;
           many = same_entries q r b same ∙ cut.many;

@@ -4,4 +4,4 @@ use Rattle.program_batches.proofs.Completed.{Completing}
 use Rattle.program_batches.proofs.complete.Given as goal
 
 abbrev pub invariant-loop-line : goal.invariant-loop-line
-invariant-loop-line l = Completing l.lines l.initial.out l.out l.answers l.line l.used
+invariant-loop-line l = Completing l.lines l.initial.out l.out l.answers l.line l.left

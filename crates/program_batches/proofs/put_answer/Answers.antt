@@ -3,4 +3,4 @@ use Rattle.program_batches.proofs.Completed.{answer-put}
 use Rattle.program_batches.proofs.put_answer.Goals as goal
 
 pub returns : goal.returns
-returns c = search answer-put
+returns c = search (answer-put, c.requires.1)

@@ -1,16 +1,13 @@
--- `tree_delete::nodes::share_nodes` meets its contract, for leaves and for branches.
-use Rattle.tree_splits.proofs.SoundBlocks.{leaf-at, branch-at}
-use Rattle.tree_delete.proofs.NodeMends.{shared-leaves, shared-branches, nodes-other}
+-- `tree_delete::nodes::share_nodes` meets its contract, by the size of the level's entries.
+use Rattle.tree_delete.proofs.NodeMends.{nodes-apart, left-fits, right-fits, nodes-shared}
 use Rattle.tree_delete.proofs.nodes.share_nodes.Goals as goal
 
-pub share_leaves-requires : goal.share_leaves-requires
-share_leaves-requires c = (search leaf-at, search leaf-at, search nodes-other)
+pub share_out-requires : goal.share_out-requires
+share_out-requires c = (
+  nodes-apart _ _ _ _ c.requires.two,
+  rw c.unit_of.ensures (left-fits _ _ _ _ c.requires.two),
+  rw c.unit_of.ensures (right-fits _ _ _ _ c.requires.two),
+)
 
-pub share_branches-requires : goal.share_branches-requires
-share_branches-requires c = (search branch-at, search branch-at, search nodes-other)
-
-pub returns-then-level-eq0 : goal.returns-then-level-eq0
-returns-then-level-eq0 c = search shared-leaves
-
-pub returns-else-level-eq0 : goal.returns-else-level-eq0
-returns-else-level-eq0 c = search shared-branches
+pub returns : goal.returns
+returns c = nodes-shared _ _ _ _ _ c.requires.two c.requires.many (rw c.unit_of.ensures at c.share_out.ensures)
