@@ -11,7 +11,7 @@ ghost use Rattle.pool_blocks.specs.Nodes.{EntriesCut};
 use crate::moves::{close_gap, cut_off, open_gap};
 use geometry::Record;
 use pool::{block_at, put_byte};
-use pool_entries::entry_count;
+use pool_entries::Block;
 use sequence::{count_in, find};
 
 // How many marks a search passes at once.
@@ -51,7 +51,7 @@ pub fn find_mark(pool: &[u8], b: usize, c: u8, j: usize) -> usize
     ensures { result ≡ select c (leaf_marks pool.now b) j }
 {
     let at = block_at(b);
-    let marks = &pool[at..at + entry_count(pool, b)];
+    let marks = &pool[at..at + Block { pool, b }.entry_count()];
     let (strides, _) = marks.as_chunks::<STRIDE>();
     let mut passed = 0;
     let mut left = j;

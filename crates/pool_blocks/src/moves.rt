@@ -9,7 +9,7 @@ ghost use Rattle.pool_blocks.specs.Moves.{PutTrailer, Emptied, Opened, Closed, C
 
 use geometry::Record;
 use pool::{block_at, move_bytes, put_byte, put_word};
-use pool_entries::entry_count;
+use pool_entries::Block;
 
 // Moves so many entries, from number i of the block `from` on, to the block `to`, from number j on.
 fn move_entries(
@@ -42,7 +42,7 @@ pub fn open_gap(pool: &mut [u8], b: usize, unit: usize, k: usize)
     requires { (b < shares pool.old) × (k ≤ entries pool.old b) × Room unit (entries pool.old b + 1) }
     ensures { Opened unit b k pool.old pool.new }
 {
-    let many = entry_count(pool, b);
+    let many = Block { pool, b }.entry_count();
     move_entries(pool, unit, b, k, b, k + 1, many - k);
     put_entry_count(pool, b, many + 1);
 }
@@ -52,7 +52,7 @@ pub fn close_gap(pool: &mut [u8], b: usize, unit: usize, k: usize)
     requires { (b < shares pool.old) × (k < entries pool.old b) × Room unit (entries pool.old b) }
     ensures { Closed unit b k pool.old pool.new }
 {
-    let many = entry_count(pool, b);
+    let many = Block { pool, b }.entry_count();
     move_entries(pool, unit, b, k + 1, b, k, many - (k + 1));
     put_entry_count(pool, b, many - 1);
 }
@@ -62,7 +62,7 @@ pub fn cut_off(pool: &mut [u8], b: usize, new: usize, unit: usize, cut: usize)
     requires { Apart pool.old b new × (cut ≤ entries pool.old b) × Room unit (entries pool.old b) }
     ensures { CutOff unit b new cut pool.old pool.new }
 {
-    let many = entry_count(pool, b);
+    let many = Block { pool, b }.entry_count();
     move_entries(pool, unit, b, cut, new, 0, many - cut);
     put_entry_count(pool, b, cut);
     put_trailer(pool, new, many - cut);
@@ -98,8 +98,8 @@ pub fn join(pool: &mut [u8], left: usize, right: usize, unit: usize)
         × Room unit (entries pool.old left + entries pool.old right) }
     ensures { Joined unit left right pool.old pool.new }
 {
-    let here = entry_count(pool, left);
-    let there = entry_count(pool, right);
+    let here = Block { pool, b: left }.entry_count();
+    let there = Block { pool, b: right }.entry_count();
     move_entries(pool, unit, right, 0, left, here, there);
     put_entry_count(pool, left, here + there);
 }
@@ -109,8 +109,8 @@ pub fn share_out(pool: &mut [u8], left: usize, right: usize, unit: usize)
     requires { Apart pool.old left right × Room unit (entries pool.old left) × Room unit (entries pool.old right) }
     ensures { SharedOut unit left right pool.old pool.new }
 {
-    let here = entry_count(pool, left);
-    let there = entry_count(pool, right);
+    let here = Block { pool, b: left }.entry_count();
+    let there = Block { pool, b: right }.entry_count();
     let half = (here + there) / 2;
     refill(pool, left, right, unit, here, there, half);
     put_entry_count(pool, left, half);

@@ -7,7 +7,7 @@ ghost use Rattle.tree_delete.specs.Mends.{PairReady, PairOf, PairMended};
 
 use crate::nodes::{join_nodes, share_nodes};
 use pool_blocks::branch::remove_entry;
-use pool_entries::{entry_count, link, most_entries, set_entry, summary_of};
+use pool_entries::{Block, most_entries, set_entry};
 use pool_holders::give_back;
 
 // Mends children k and the next of the branch b.
@@ -15,9 +15,11 @@ pub fn mend_pair(pool: &mut [u8], level: usize, b: usize, k: usize, map: &mut [u
     requires { PairReady pool.old map.old level b k }
     ensures { PairMended level b k pool.old pool.new map.old map.new }
 {
-    let left = link(pool, b, k);
-    let right = link(pool, b, k + 1);
-    if entry_count(pool, left) + entry_count(pool, right) <= most_entries(level) {
+    let parent = Block { pool, b };
+    let left = parent.link(k);
+    let right = parent.link(k + 1);
+    let many = Block { pool, b: left }.entry_count() + Block { pool, b: right }.entry_count();
+    if many <= most_entries(level) {
         join_pair(pool, level, b, k, left, right, map);
     } else {
         share_pair(pool, level, b, k, left, right, map);
@@ -39,7 +41,7 @@ fn join_pair(
     ensures { PairMended level b k pool.old pool.new map.old map.new }
 {
     join_nodes(pool, level, left, right);
-    let summary = summary_of(pool, level, left);
+    let summary = Block { pool, b: left }.summary(level);
     set_entry(pool, b, k, left, summary);
     remove_entry(pool, b, k + 1);
     give_back(map, right);
@@ -60,8 +62,8 @@ fn share_pair(
     ensures { PairMended level b k pool.old pool.new map.now map.now }
 {
     share_nodes(pool, level, left, right);
-    let first = summary_of(pool, level, left);
-    let second = summary_of(pool, level, right);
+    let first = Block { pool, b: left }.summary(level);
+    let second = Block { pool, b: right }.summary(level);
     set_entry(pool, b, k, left, first);
     set_entry(pool, b, k + 1, right, second);
 }

@@ -3,7 +3,7 @@ ghost use Rattle.tree_delete.specs.Removals.{DeleteReady};
 ghost use Rattle.tree_delete.specs.Trees.{TreeDeleted};
 
 use crate::deletes::delete_in;
-use pool_entries::{entry_count, link};
+use pool_entries::Block;
 use pool_holders::give_back;
 use tree_splits::Rooted;
 
@@ -21,13 +21,14 @@ pub fn delete_in_tree(pool: &mut [u8], level: usize, b: usize, i: usize, map: &m
     ensures { TreeDeleted level b i result pool.old pool.new map.old map.new }
 {
     let mark = delete_in(pool, level, b, i, map);
-    if level == 0 || entry_count(pool, b) > 1 {
+    let block = Block { pool, b };
+    if level == 0 || block.entry_count() > 1 {
         let tree = Rooted { level, root: b };
         return Removed { mark, tree };
     }
     let tree = Rooted {
         level: level - 1,
-        root: link(pool, b, 0),
+        root: block.link(0),
     };
     give_back(map, b);
     Removed { mark, tree }
