@@ -1,7 +1,6 @@
 // One block of a tree by itself: whether it may be entered, and a leaf's marks.
 ghost use Rattle.std.specs.Prelude.{◌≡◌, ◌+◌, ◌≤◌, ◌<◌, length, [], ◌∷◌};
 ghost use Rattle.geometry.specs.Layout.{most_leaf};
-ghost use Rattle.geometry.specs.Limits.{directory_size, longest_pool};
 ghost use Rattle.lists.specs.Items.{AllBelow};
 ghost use Rattle.pool.specs.Blocks.{entries, leaf_marks};
 ghost use Rattle.pool.specs.Bytes.{shares};
@@ -12,6 +11,7 @@ ghost use Rattle.pool_check.specs.Walks.{Walked};
 ghost use Rattle.pool_check.specs.Parts.{MarksFit};
 ghost use Rattle.pool_check.specs.Says.{Says};
 
+use crate::lent::Tree;
 use geometry::Record;
 use pool::{block_at, shares_of};
 use pool_entries::{entry_count, most_entries};
@@ -23,27 +23,37 @@ pub fn least_of_root(level: usize) -> usize
     if level == 0 { 0 } else { Record::LEAST_BRANCH }
 }
 
-// Whether a block is one of the pool's that nobody holds yet, of the right form and number of entries. It is then marked.
-pub fn enter(
-    pool: &[u8],
-    level: usize,
-    b: usize,
-    fewest: usize,
-    map: &mut [u8; Record::MOST_SHARES],
-    holder: u8,
-) -> bool
-    requires { (directory_size ≤ length pool.now) × (length pool.now ≤ longest_pool) }
-    ensures { Walked result (SoundBlock pool.now fewest level b) holder (b ∷ [])
-        map.old map.new }
-{
-    let enters = b < shares_of(pool)
-        && map[b] == 0
-        && pool[block_at(b) + Record::FORM_AT] == Record::FORM_MARKS
-        && (fewest..=most_entries(level)).contains(&entry_count(pool, b));
-    if enters {
-        map[b] = holder;
+impl Tree<'_> {
+    // Whether a block is one of the pool's that nobody holds yet, of the right form and number of entries. It is then marked.
+    pub fn enter(
+        &self,
+        level: usize,
+        b: usize,
+        fewest: usize,
+        map: &mut [u8; Record::MOST_SHARES],
+    ) -> bool
+        ensures { Walked result (SoundBlock self.now.pool.bytes.now fewest level b) self.now.holder (b ∷ [])
+            map.old map.new }
+    {
+        let pool = self.pool.bytes;
+        let enters = b < shares_of(pool)
+            && map[b] == 0
+            && pool[block_at(b) + Record::FORM_AT] == Record::FORM_MARKS
+            && (fewest..=most_entries(level)).contains(&entry_count(pool, b));
+        if enters {
+            map[b] = self.holder;
+        }
+        enters
     }
-    enters
+
+    // Whether all marks of a root that is a leaf are below the alphabet's size.
+    pub fn root_fits(&self, level: usize, b: usize) -> bool
+        requires { (b < shares self.now.pool.bytes.now) × (entries self.now.pool.bytes.now b ≤ most one_to_a_byte level) }
+        ensures { Says result (MarksFit self.now.pool.bytes.now self.now.alphabet level b) }
+    {
+        let pool = self.pool.bytes;
+        level != 0 || marks_below(pool, b, entry_count(pool, b), self.alphabet)
+    }
 }
 
 // Whether all marks of a leaf are below the alphabet's size.
@@ -53,12 +63,4 @@ fn marks_below(pool: &[u8], b: usize, many: usize, alphabet: u8) -> bool
 {
     let at = block_at(b);
     pool[at..at + many].iter().all(|mark| *mark < alphabet)
-}
-
-// The same for a root, which is a leaf at level 0 alone.
-pub fn root_fits(pool: &[u8], level: usize, b: usize, alphabet: u8) -> bool
-    requires { (b < shares pool.now) × (entries pool.now b ≤ most one_to_a_byte level) }
-    ensures { Says result (MarksFit pool.now alphabet level b) }
-{
-    level != 0 || marks_below(pool, b, entry_count(pool, b), alphabet)
 }

@@ -6,12 +6,13 @@ ghost use Rattle.pool_check.specs.Parts.{Checked};
 ghost use Rattle.pool_check.specs.Says.{Says};
 
 use crate::directory::header_sound;
-use crate::names::check_names;
+use crate::lent::Lent;
 use geometry::Record;
 use pool::shares_of;
 
 mod block;
 mod directory;
+mod lent;
 mod names;
 mod summaries;
 mod walk;
@@ -37,5 +38,5 @@ pub fn check(pool: &[u8], map: &mut [u8; Record::MOST_SHARES]) -> bool
         return false;
     }
     *map = [0; Record::MOST_SHARES];
-    check_names(pool, map)
+    Lent { bytes: pool }.check_names(map)
 }

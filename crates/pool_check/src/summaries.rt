@@ -10,6 +10,7 @@ ghost use Rattle.shape.specs.Sizes.{one_to_a_byte, least, most};
 ghost use Rattle.pool_check.specs.Parts.{Repeats, Matches, Padded, Claim};
 ghost use Rattle.pool_check.specs.Says.{Says};
 
+use crate::lent::Tree;
 use geometry::Record;
 use pool::block_at;
 use pool_entries::{count_below, entry_count, marks_below};
@@ -18,45 +19,50 @@ use sequence::count_in;
 // What stands behind a leaf's marks where they are filled up.
 const NO_SYMBOL: u8 = 255;
 
-// Whether entry k of a branch is the summary of the block `child`, of a level; and of a leaf whether its marks are below the alphabet's
-// size.
-pub fn repeats(pool: &[u8], level: usize, b: usize, k: usize, child: usize, alphabet: u8) -> bool
-    requires parent { (b < shares pool.now) × (k < most_branch) }
-    requires child { (child < shares pool.now) × (alphabet ≤ most_alphabet) }
-    requires size { (least one_to_a_byte level ≤ entries pool.now child) × (entries pool.now child ≤ most one_to_a_byte level) }
-    ensures { Says result (Matches pool.now alphabet level b k child) }
-{
-    if level == 0 {
-        leaf_repeats(pool, b, k, child, alphabet)
-    } else {
-        branch_repeats(pool, b, k, child)
+impl Tree<'_> {
+    // Whether entry k of a branch is the summary of the block `child`, of a level; and of a leaf whether its marks are below the alphabet's
+    // size.
+    pub fn repeats(&self, level: usize, b: usize, k: usize, child: usize) -> bool
+        requires parent { (b < shares self.now.pool.bytes.now) × (k < most_branch) }
+        requires child { child < shares self.now.pool.bytes.now }
+        requires size { (least one_to_a_byte level ≤ entries self.now.pool.bytes.now child)
+            × (entries self.now.pool.bytes.now child ≤ most one_to_a_byte level) }
+        ensures { Says result (Matches self.now.pool.bytes.now self.now.alphabet level b k child) }
+    {
+        if level == 0 {
+            self.leaf_repeats(b, k, child)
+        } else {
+            branch_repeats(self.pool.bytes, b, k, child)
+        }
     }
-}
 
-// A leaf by the counts that the entry claims, which must add up to its size: only symbols that it says are there are counted, and none
-// behind the last of them.
-fn leaf_repeats(pool: &[u8], b: usize, k: usize, leaf: usize, alphabet: u8) -> bool
-    requires parent { (b < shares pool.now) × (k < most_branch) }
-    requires leaf { (leaf < shares pool.now) × (entries pool.now leaf ≤ most_leaf) × (alphabet ≤ most_alphabet) }
-    ensures { Says result (Matches pool.now alphabet 0 b k leaf) }
-{
-    let many = entry_count(pool, leaf);
-    if marks_below(pool, b, k) != many || all_claimed(pool, b, k) != many {
-        return false;
-    }
-    let marks = padded(pool, leaf);
-    let mut left = many;
-    let mut c = 0;
-    // A `for` over the symbols that ends where nothing is left makes the whole check slower by 8 percent: 4,870 ns, and not 4,460.
-    while left > 0 {
-        let told = count_below(pool, b, k, c);
-        if !claim_holds(&marks, c, told, alphabet) {
+    // A leaf by the counts that the entry claims, which must add up to its size: only symbols that it says are there are counted, and none
+    // behind the last of them.
+    fn leaf_repeats(&self, b: usize, k: usize, leaf: usize) -> bool
+        requires parent { (b < shares self.now.pool.bytes.now) × (k < most_branch) }
+        requires leaf { (leaf < shares self.now.pool.bytes.now) × (entries self.now.pool.bytes.now leaf ≤ most_leaf) }
+        ensures { Says result (Matches self.now.pool.bytes.now self.now.alphabet 0 b k leaf) }
+    {
+        let pool = self.pool.bytes;
+        let alphabet = self.alphabet;
+        let many = entry_count(pool, leaf);
+        if marks_below(pool, b, k) != many || all_claimed(pool, b, k) != many {
             return false;
         }
-        left -= told;
-        c += 1;
+        let marks = padded(pool, leaf);
+        let mut left = many;
+        let mut c = 0;
+        // A `for` over the symbols that ends where nothing is left makes the whole check slower by 8 percent: 4,870 ns, and not 4,460.
+        while left > 0 {
+            let told = count_below(pool, b, k, c);
+            if !claim_holds(&marks, c, told, alphabet) {
+                return false;
+            }
+            left -= told;
+            c += 1;
+        }
+        true
     }
-    true
 }
 
 // How many marks an entry claims, all symbols together.

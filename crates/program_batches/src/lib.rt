@@ -138,10 +138,7 @@ const ZEROS: Frame = Frame {
 // what a bad line is answered
 const BAD_LINE: Frame = Frame {
     first: 0xFF,
-    second: 0,
-    third: 0,
-    fourth: 0,
-    number: 0,
+    ..ZEROS
 };
 
 // the byte that a place begins with while it is kept for an answer

@@ -35,7 +35,8 @@ numbers_of None = 255 ∷ 0 ∷ 0 ∷ 0 ∷ 0 ∷ []
 -- the sixteen digits of a frame
 unfoldable pub digits_of_frame : Frame → List ℕ
 digits_of_frame frame =
-    digits_of 2 frame.first ++ (digits_of 2 frame.second ++ (digits_of 2 frame.third ++ (digits_of 2 frame.fourth ++ digits_of 8 frame.number)))
+    digits_of 2 frame.first ++
+    (digits_of 2 frame.second ++ (digits_of 2 frame.third ++ (digits_of 2 frame.fourth ++ digits_of 8 frame.number)))
 
 -- bytes of a written line
 abbrev pub line_size : ℕ

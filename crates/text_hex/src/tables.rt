@@ -1,4 +1,4 @@
-// The constant tables of both directions. A rule of the project asks for them, so neither `to_digit` nor `from_digit` stands in their place.
+// The constant tables of both directions. A rule of the project asks for tables here, where `to_digit` and `from_digit` would do.
 
 // The value of each byte that is a digit, of either case, and 255 for every other byte.
 pub const VALUES: [u8; 256] = [

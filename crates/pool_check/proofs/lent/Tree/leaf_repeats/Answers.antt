@@ -1,7 +1,7 @@
 use borrow.Author.Rules.{rules}
 use Rattle.pool_check.proofs.Claims.{claims-none, claims-more, claims-not, other-marks, other-sum, claims-all, left-all, some_left, next-left, left-enough, left-next}
-use Rattle.pool_check.proofs.summaries.leaf_repeats.Goals as goal
-use Rattle.pool_check.proofs.summaries.leaf_repeats.Goals.{then-marks_below-many-via-then-marks_below-many, then-marks_below-many-via-else-marks_below-many+then-all_claimed-many}
+use Rattle.pool_check.proofs.lent.Tree.leaf_repeats.Goals as goal
+use Rattle.pool_check.proofs.lent.Tree.leaf_repeats.Goals.{then-marks_below-many-via-then-marks_below-many, then-marks_below-many-via-else-marks_below-many+then-all_claimed-many}
 
 pub returns-then-marks_below-many : goal.returns-then-marks_below-many
 returns-then-marks_below-many c =

@@ -1,8 +1,8 @@
 use mathlib.Core.Bool.{true, false}
 use mathlib.Core.Path.{◌≡◌}
 use Rattle.pool_check.proofs.Walking.{branch-walked, no-children, child-refused, entry-refused, children-walked}
-use Rattle.pool_check.proofs.walk.+check_block_check_children.Goals as goal
-use Rattle.pool_check.proofs.walk.+check_block_check_children.Goals.{check_children-then-check_block, check_children-else-check_block}
+use Rattle.pool_check.proofs.lent.Tree.+check_block_check_children.Goals as goal
+use Rattle.pool_check.proofs.lent.Tree.+check_block_check_children.Goals.{check_children-then-check_block, check_children-else-check_block}
 
 pub check_block-returns-else-level-eq0 : goal.check_block-returns-else-level-eq0
 check_block-returns-else-level-eq0 t c = search branch-walked
