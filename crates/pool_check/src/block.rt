@@ -14,7 +14,7 @@ ghost use Rattle.pool_check.specs.Says.{Says};
 use crate::lent::Tree;
 use geometry::Record;
 use pool::{block_at, shares_of};
-use pool_entries::{entry_count, most_entries};
+use pool_entries::{Block, most_entries};
 
 // The entries that a root of a level has at least.
 pub fn least_of_root(level: usize) -> usize
@@ -39,7 +39,7 @@ impl Tree<'_> {
         let enters = b < shares_of(pool)
             && map[b] == 0
             && pool[block_at(b) + Record::FORM_AT] == Record::FORM_MARKS
-            && (fewest..=most_entries(level)).contains(&entry_count(pool, b));
+            && (fewest..=most_entries(level)).contains(&Block { pool, b }.entry_count());
         if enters {
             map[b] = self.holder;
         }
@@ -51,16 +51,20 @@ impl Tree<'_> {
         requires { (b < shares self.now.pool.bytes.now) × (entries self.now.pool.bytes.now b ≤ most one_to_a_byte level) }
         ensures { Says result (MarksFit self.now.pool.bytes.now self.now.alphabet level b) }
     {
-        let pool = self.pool.bytes;
-        level != 0 || marks_below(pool, b, entry_count(pool, b), self.alphabet)
+        let root = Block {
+            pool: self.pool.bytes,
+            b,
+        };
+        level != 0 || marks_fit(&root, self.alphabet)
     }
 }
 
 // Whether all marks of a leaf are below the alphabet's size.
-fn marks_below(pool: &[u8], b: usize, many: usize, alphabet: u8) -> bool
-    requires { (b < shares pool.now) × (many ≡ entries pool.now b) × (many ≤ most_leaf) }
-    ensures { Says result (AllBelow alphabet (leaf_marks pool.now b)) }
+fn marks_fit(leaf: &Block, alphabet: u8) -> bool
+    requires { entries leaf.now.pool.now leaf.now.b ≤ most_leaf }
+    ensures { Says result (AllBelow alphabet (leaf_marks leaf.now.pool.now leaf.now.b)) }
 {
-    let at = block_at(b);
-    pool[at..at + many].iter().all(|mark| *mark < alphabet)
+    let at = block_at(leaf.b);
+    let end = at + leaf.entry_count();
+    leaf.pool[at..end].iter().all(|mark| *mark < alphabet)
 }

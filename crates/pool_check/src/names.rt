@@ -13,9 +13,9 @@ ghost use Rattle.pool_check.specs.Says.{Says};
 use crate::block::least_of_root;
 use crate::directory::all_zero;
 use crate::lent::{Lent, Tree};
-use crate::summaries::own_marks;
 use geometry::Record;
 use pool::{read_record, record_at, word};
+use pool_entries::Block;
 use pool_holders::holder_of;
 
 impl Lent<'_> {
@@ -55,7 +55,12 @@ impl Lent<'_> {
         let root = usize::from(found.root);
         tree.check_block(height, root, least_of_root(height), map)
             && tree.root_fits(height, root)
-            && own_marks(self.bytes, height, root) == usize::from(found.length)
+            && Block {
+                pool: self.bytes,
+                b: root,
+            }
+            .own_marks(height)
+                == usize::from(found.length)
     }
 
     // Whether a name is sound and holds no block that was met before.

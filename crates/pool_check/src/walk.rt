@@ -12,7 +12,7 @@ ghost use Rattle.pool_check.specs.Parts.{WalkedTree, SoundChildren};
 
 use crate::lent::Tree;
 use geometry::Record;
-use pool_entries::{entry_count, least_entries, link};
+use pool_entries::{Block, least_entries};
 
 impl Tree<'_> {
     // Whether the tree at a block is sound and none of its blocks was met before. They are then marked as the holder's.
@@ -31,7 +31,11 @@ impl Tree<'_> {
         if !self.enter(level, b, fewest, map) {
             return false;
         }
-        let many = entry_count(self.pool.bytes, b);
+        let block = Block {
+            pool: self.pool.bytes,
+            b,
+        };
+        let many = block.entry_count();
         level == 0 || self.check_children(level - 1, b, 0, many, map)
     }
 
@@ -53,7 +57,11 @@ impl Tree<'_> {
         if left == 0 {
             return true;
         }
-        let child = link(self.pool.bytes, b, k);
+        let branch = Block {
+            pool: self.pool.bytes,
+            b,
+        };
+        let child = branch.link(k);
         self.check_block(level, child, least_entries(level), map)
             && self.repeats(level, b, k, child)
             && self.check_children(level, b, k + 1, left - 1, map)

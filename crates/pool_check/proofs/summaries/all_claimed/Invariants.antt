@@ -7,4 +7,4 @@ use Rattle.pool.specs.Words.{word_limit}
 use Rattle.pool_check.proofs.summaries.all_claimed.Given as goal
 
 abbrev pub invariant-loop-c : goal.invariant-loop-c
-invariant-loop-c l = (l.sum ≤ word_limit * l.c) × (l.sum ≡ sum_below l.c (count_below l.pool l.b l.k))
+invariant-loop-c l = (l.sum ≤ word_limit * l.c) × (l.sum ≡ sum_below l.c (count_below l.parent.pool.now l.parent.b l.k))

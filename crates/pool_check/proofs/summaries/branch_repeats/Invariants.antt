@@ -5,4 +5,4 @@ use Rattle.pool_check.proofs.Repeating.{RepeatsTo}
 use Rattle.pool_check.proofs.summaries.branch_repeats.Given as goal
 
 abbrev pub invariant-loop-c : goal.invariant-loop-c
-invariant-loop-c l = Says l.same (RepeatsTo l.pool 1 l.b l.k l.child l.c)
+invariant-loop-c l = Says l.same (RepeatsTo l.pool 1 l.b l.k l.child.b l.c)

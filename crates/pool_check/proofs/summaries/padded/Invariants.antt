@@ -8,4 +8,4 @@ use Rattle.pool_check.proofs.Paddings.{PaddedTo}
 use Rattle.pool_check.proofs.summaries.padded.Given as goal
 
 abbrev pub invariant-loop-i : goal.invariant-loop-i
-invariant-loop-i l = (l.left ≡ block_size - l.i) × (length l.marks ≡ block_size) × PaddedTo (leaf_marks l.pool l.leaf) l.marks l.i
+invariant-loop-i l = (l.left ≡ block_size - l.i) × (length l.marks ≡ block_size) × PaddedTo (leaf_marks l.leaf.pool.now l.leaf.b) l.marks l.i

@@ -12,10 +12,10 @@ pub returns-then-level-eq0 : goal.returns-then-level-eq0
 returns-then-level-eq0 t c = search leaf-deleted
 
 pub seat_by-seat-requires : goal.seat_by-seat-requires
-seat_by-seat-requires t c = record { inside = (search rules, search rules); branch = (search branch-least, search branch-most) }
+seat_by-seat-requires t c = record { inside = search rules; branch = (search branch-least, search branch-most) }
 
 pub link-child-requires : goal.link-child-requires
-link-child-requires t c = (search rules, search (seated-low, branch-most))
+link-child-requires t c = search (seated-low, branch-most)
 
 pub overflow_sub-i : goal.overflow_sub-i
 overflow_sub-i t c = search seated-before

@@ -6,8 +6,8 @@ use Rattle.tree_delete.proofs.pairs.join_pair.Goals as goal
 pub join_nodes-requires : goal.join_nodes-requires
 join_nodes-requires c = record { two = search two-nodes; fit = search rules }
 
-pub summary_of-summary-requires : goal.summary_of-summary-requires
-summary_of-summary-requires c = (search rules, search rules, search joined_small)
+pub summary-summary-requires : goal.summary-summary-requires
+summary-summary-requires c = (search rules, search joined_small)
 
 -- by hand: a search compares too much here
 pub remove_entry-requires : goal.remove_entry-requires

@@ -6,11 +6,11 @@ use Rattle.tree_delete.proofs.pairs.share_pair.Goals as goal
 pub share_nodes-requires : goal.share_nodes-requires
 share_nodes-requires c = record { two = search two-nodes; many = search rules }
 
-pub summary_of-first-requires : goal.summary_of-first-requires
-summary_of-first-requires c = (search rules, search rules, search first_small)
+pub summary-first-requires : goal.summary-first-requires
+summary-first-requires c = (search rules, search first_small)
 
-pub summary_of-second-requires : goal.summary_of-second-requires
-summary_of-second-requires c = (search rules, search rules, search second-small)
+pub summary-second-requires : goal.summary-second-requires
+summary-second-requires c = (search rules, search second-small)
 
 pub returns : goal.returns
 returns c = search share-returns

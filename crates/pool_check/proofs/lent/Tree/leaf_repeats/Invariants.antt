@@ -9,7 +9,11 @@ use Rattle.pool_check.proofs.Claims.{ClaimsTo}
 use Rattle.pool_check.proofs.lent.Tree.leaf_repeats.Given as goal
 
 abbrev pub invariant-loop-left : goal.invariant-loop-left
-invariant-loop-left l = (l.c ≤ most_alphabet) × (l.left + sum_below l.c (count_below l.pool l.b l.k) ≡ sum_below most_alphabet (count_below l.pool l.b l.k)) × ClaimsTo l.pool l.b l.k l.leaf l.alphabet l.c
+invariant-loop-left l =
+    let p = l.self.pool.bytes.now in
+    (l.c ≤ most_alphabet)
+    × (l.left + sum_below l.c (count_below p l.parent.b l.k) ≡ sum_below most_alphabet (count_below p l.parent.b l.k))
+    × ClaimsTo p l.parent.b l.k l.fn.leaf l.self.alphabet l.c
 
 abbrev pub decreases-loop-left : goal.decreases-loop-left
 decreases-loop-left l = most_alphabet - l.c
