@@ -8,7 +8,6 @@ use Rattle.geometry.specs.Limits.{most_alphabet}
 use Rattle.geometry.specs.declared.Record.{Record}
 use Rattle.pool.proofs.Summaries.{own-count}
 use Rattle.pool.specs.Blocks.{entries}
-use Rattle.pool.specs.Bytes.{shares}
 use Rattle.pool.specs.Sound.{SoundBlock, SoundBelow}
 use Rattle.pool.specs.Trees.{shape_at, own_count}
 use Rattle.pool.specs.Words.{word_limit}
@@ -16,7 +15,7 @@ use Rattle.sequence.proofs.Counts.{count-le-length}
 use Rattle.sequence.proofs.Ranks.{rank-length}
 use Rattle.sequence.specs.Definition1.{count, rank}
 use Rattle.shape.specs.Fill.{root_least}
-use Rattle.shape.specs.Nested.{flat, marks_in}
+use Rattle.shape.specs.Nested.{flat}
 use Rattle.shape.specs.Trees.{marks_t}
 use Rattle.tree_query.specs.Records.{OfOpenName, tree_by}
 use Rattle.tree_query.proofs.Records.{record-length}
@@ -33,9 +32,6 @@ branch-own p alphabet (suc h) b c branch low below = own-count p alphabet (suc h
 
 -- A name, by its record.
 module _ (p : List ℕ) (r : Record) (o : OfOpenName p r) (c : ℕ) (low : c < most_alphabet) where
-  pub leaf-ready : r.length ≤ marks_in r.height (shape_at p r.height r.root)
-  leaf-ready = omega (arith, record-length p r o)
-
   pub leaf-counted : (n : ℕ) → n ≡ rank c (flat r.height (shape_at p r.height r.root)) r.length → n ≡ count c (marks_t (tree_by p r))
   leaf-counted n ranked =
       ranked ∙ ap (rank c (marks_t (tree_by p r))) (record-length p r o) ∙ rank-length c (marks_t (tree_by p r))
@@ -46,9 +42,6 @@ module _ (p : List ℕ) (r : Record) (o : OfOpenName p r) (c : ℕ) (low : c < m
 
     root-block : SoundBlock p (root_least r.height) r.height r.root
     root-block = rw o.is o.opened.root
-
-    pub branch-inside : r.root < shares p
-    branch-inside = root-block.inside
 
     pub branch-least : least_branch ≤ entries p r.root
     branch-least = (branch-size p r.height r.root branch root-block).0

@@ -15,7 +15,6 @@ use Rattle.pool_entries.specs.Summaries.{Is, words_at}
 use Rattle.geometry.specs.Layout.{entry_marks_at, entry_counts_at, word_size, least_branch, most_branch}
 use Rattle.geometry.specs.Limits.{most_alphabet}
 use Rattle.pool.specs.Blocks.{entries, leaf_marks, link}
-use Rattle.pool.specs.Bytes.{shares}
 use Rattle.pool.specs.Sound.{SoundBlock}
 use Rattle.pool.specs.Trees.{shape_at}
 use Rattle.pool.specs.Words.{word_limit}
@@ -53,9 +52,6 @@ module _ (t : ℕ) (p : List ℕ) (level b : ℕ) (at : level ≡ t) (good : Goo
   branch-at =
       at-branch (λ l d. Good p l b → SoundBlock p least_branch 1 b) level branch
       (λ h good. record { inside = good.0.inside; form = good.0.form; enough = good.0.enough; fits = good.0.fits }) good
-
-  pub branch-inside : b < shares p
-  branch-inside = branch-at.inside
 
   pub branch-least : least_branch ≤ entries p b
   branch-least = branch-at.enough

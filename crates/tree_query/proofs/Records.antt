@@ -10,7 +10,6 @@ use Rattle.geometry.specs.Limits.{names}
 use Rattle.geometry.specs.declared.Record.{Record}
 use Rattle.pool.specs.Names.{record_of, path_of}
 use Rattle.pool.specs.Sound.{ClosedName, OpenName, Sound}
-use Rattle.pool.specs.Words.{word_limit}
 use Rattle.pool.proofs.SoundNames.{open-depth, open-depth-rule}
 use Rattle.pool.proofs.Written.{closed-record}
 use Rattle.shape.specs.Trees.{marks_t}
@@ -37,10 +36,6 @@ module _ (p : List ℕ) (r : Record) (o : OfOpenName p r) where
   -- how many marks it has
   pub record-length : r.length ≡ length (marks_t (tree_by p r))
   record-length = rw o.is o.opened.length
-
-  -- which are no more than a word tells
-  pub record-few : r.length < word_limit → length (marks_t (tree_by p r)) < word_limit
-  record-few short = omega (arith, record-length)
 
   -- the mark that its root's block finds; the depth is that of its tree, and keeps to RULES, Depth
   pub record-found : (i mark blocks : ℕ) → FoundIn p r.height r.root i mark 0 blocks → FoundOf p r i (record { mark = mark; blocks = blocks })
