@@ -56,6 +56,7 @@ use Rattle.frame_queries.specs.Accepted.{answer_of}
 use Rattle.sequence.specs.Definition1.{access}
 use Rattle.shape.specs.Sizes.{one_to_a_byte}
 use Rattle.shape.specs.Trees.{Tree, empty_t, insert_t, delete_t}
+use Rattle.frame_status.specs.declared.request.Request.{Request}
 use Rattle.frame_status.specs.Statuses.{status_in}
 use Rattle.name_edits.specs.Edits.{InsertAt, DeleteAt, InsertedAt, DeletedAt}
 use Rattle.frame_execute.specs.Steps.{is_change, Kept, Stepped, Ready}
@@ -96,8 +97,10 @@ module _ (p m : List ℕ) (c : Command) (ready : Ready p m) where
   pub asked-steps : (a : Answer) → a ≡ answer_of p c → access_code ≤ c.code → Stepped p c a p m
   asked-steps a is late = stays-itself a is (query-keeps-state trees (meaning p) c late)
 
-  pub unpromised-steps : (op : Operation) → op ≡ Unpromised → code_of op ≡ c.code → (a : Answer) → a ≡ answer_of p c → Stepped p c a p m
-  unpromised-steps op is code a told = asked-steps a told (omega (arith, ap code_of is, code))
+  pub unpromised-steps : (request : Request) → request.command ≡ c → request.operation ≡ Unpromised → (a : Answer) → a ≡ answer_of p c
+      → Stepped p c a p m
+  unpromised-steps request same is a told =
+      asked-steps a told (omega (arith, ap code_of is, request.coded, ap (λ (x : Command). x.code) same))
 
   -- what doesn't change the pool is a query
   pub late-code : (op : Operation) → code_of op ≡ c.code → (op ≡ Open → ⊥) → (op ≡ Close → ⊥) → (op ≡ Insert → ⊥) → (op ≡ Delete → ⊥)

@@ -4,22 +4,21 @@
 ghost use Rattle.std.specs.Prelude.{◌≢◌, ◌≡◌, ◌≤◌};
 ghost use Rattle.pool.specs.Sound.{Sound};
 ghost use Rattle.protocol.specs.Commands.{access_code, rank_code, select_code, unpromised_code};
-ghost use Rattle.protocol.specs.Numbers.{code_of};
 ghost use Rattle.frame_status.specs.Statuses.{WellFormed};
 ghost use Rattle.frame_queries.specs.Accepted.{Accepted, answer_of};
 
-use frame_status::unpromised;
+use frame_status::{Request, unpromised};
 use geometry::Record;
 use protocol::{Answer, Command, Operation};
 use tree_query::{access, rank, select};
 
 // The answer to a query of a name, whose record was read.
-pub fn ask(pool: &[u8], c: Command, operation: Operation, found: Record) -> Answer
-    requires accepted { Accepted pool.now c found × (access_code ≤ c.code) × (c.code ≢ unpromised_code) }
-    requires operation { code_of operation ≡ c.code }
-    ensures { result ≡ answer_of pool.now c }
+pub fn ask(pool: &[u8], request: Request, found: Record) -> Answer
+    requires { Accepted pool.now request.command found × (access_code ≤ request.command.code) × (request.command.code ≢ unpromised_code) }
+    ensures { result ≡ answer_of pool.now request.command }
 {
-    match operation {
+    let c = request.command;
+    match request.operation {
         Operation::Access => answer_access(pool, c, found),
         Operation::Rank => answer_rank(pool, c, found),
         Operation::Select => answer_select(pool, c, found),

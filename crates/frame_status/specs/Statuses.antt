@@ -1,16 +1,15 @@
 -- The machine's status of a command, by what a pool means, and what is known of the command where later tests are made.
-use Rattle.std.specs.Prelude.{true, List, ◌≢◌, ◌≡◌, ℕ, Result, Ok, Err, MatchResult}
+use Rattle.std.specs.Prelude.{true, List, ◌≢◌, ◌≡◌, ℕ, Result, Ok, Err}
 use Rattle.geometry.specs.declared.Record.{Record}
 use Rattle.machine.specs.Machine.{trees}
 use Rattle.pool.specs.Meaning.{meaning}
 use Rattle.pool.specs.Names.{record_of}
 use Rattle.pool.specs.Sound.{OpenName, Sound}
 use Rattle.protocol.specs.Commands.{unpromised_code}
-use Rattle.protocol.specs.Numbers.{code_of, number_of_reason}
+use Rattle.protocol.specs.Numbers.{number_of_reason}
 use Rattle.protocol.specs.Refusals.{status_of, listed, is_name_allowed, is_unused_zero}
 use Rattle.protocol.specs.State.{part_of, unpromised}
 use Rattle.protocol.specs.declared.Command.{Command}
-use Rattle.protocol.specs.declared.numbers.Operation.{Operation}
 use Rattle.protocol.specs.declared.numbers.Reason.{Reason}
 
 -- the machine's status of a command, by what the pool means
@@ -22,11 +21,6 @@ pub record WellFormed (c : Command) : Type 0 where
   pub known : listed trees c.code ≡ true
   pub name : is_name_allowed c ≡ true
   pub unused : is_unused_zero trees c ≡ true
-
--- what the command's form alone decides: it is well formed and has this operation's code, or its status is the same on every pool
-abbrev pub FormStatus : Command → Result Operation Reason → Type 0
-FormStatus c r =
-    MatchResult r (λ op. WellFormed c × (code_of op ≡ c.code)) (λ reason. (p : List ℕ) → number_of_reason reason ≡ status_in p c)
 
 -- the status that a test tells: a reason's number, and 0 where it passed
 abbrev pub status_told : {A : Type 0} → Result A Reason → ℕ

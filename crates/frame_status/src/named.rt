@@ -1,32 +1,26 @@
 // The status of a command to a name that must be open.
 ghost use Rattle.std.specs.Prelude.{◌&&◌, ◌⊎◌, ◌≢◌, ◌≡◌, leb};
 ghost use Rattle.protocol.specs.Commands.{open_code, insert_code, delete_code, access_code, rank_code, select_code};
-ghost use Rattle.protocol.specs.Numbers.{code_of};
 ghost use Rattle.frame_status.specs.Statuses.{status_in, status_told, Naming, Asking, StatusBy};
 
+use crate::request::Request;
 use geometry::Record;
 use protocol::{Command, Operation, Reason};
 use tree_query::count;
 
 // The tests of a command to a name that must be open.
-pub fn named_status(
-    pool: &[u8],
-    c: Command,
-    operation: Operation,
-    found: Record,
-) -> Result<(), Reason>
-    requires naming { Naming pool.now c found × (c.code ≢ open_code) }
-    requires operation { code_of operation ≡ c.code }
-    ensures { status_told result ≡ status_in pool.now c }
+pub fn named_status(pool: &[u8], request: Request, found: Record) -> Result<(), Reason>
+    requires { Naming pool.now request.command found × (request.command.code ≢ open_code) }
+    ensures { status_told result ≡ status_in pool.now request.command }
 {
     if found.kind == Record::KIND_CLOSED {
         return Err(Reason::NotOpen);
     }
-    match operation {
-        Operation::Insert => insertion_status(c, found),
-        Operation::Delete | Operation::Access => place_status(c, found),
-        Operation::Rank => rank_status(c, found),
-        Operation::Select => selection_status(pool, c, found),
+    match request.operation {
+        Operation::Insert => insertion_status(request.command, found),
+        Operation::Delete | Operation::Access => place_status(request.command, found),
+        Operation::Rank => rank_status(request.command, found),
+        Operation::Select => selection_status(pool, request.command, found),
         _ => Ok(()),
     }
 }

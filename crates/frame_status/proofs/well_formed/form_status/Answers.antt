@@ -1,5 +1,5 @@
 -- `frame_status::well_formed::form_status` meets its contract: refused by one of the first three tests, or well formed.
-use borrow.Author.Rules.{rules}
+use mathlib.Core.Path.{refl}
 use Rattle.std.proofs.lemmas.Result.{err_from_is_err_and}
 use Rattle.frame_status.proofs.Forms.{form-unknown, form-name, form-unused, form-passed}
 use Rattle.frame_status.proofs.well_formed.form_status.Goals as goal
@@ -17,4 +17,4 @@ pub returns-then-not-is_unused_zero : goal.returns-then-not-is_unused_zero
 returns-then-not-is_unused_zero c = λ p. search (form-unused, c.in_ok-operation.ensures)
 
 pub returns : goal.returns
-returns c = (search (form-passed, c.in_ok-operation.ensures), search (rules, c.in_ok-operation.ensures))
+returns c = (refl, search (form-passed, c.in_ok-operation.ensures))

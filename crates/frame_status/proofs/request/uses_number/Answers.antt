@@ -1,7 +1,7 @@
--- `frame_status::well_formed::uses_number` meets its contract: the table says so of these operations and of no others.
+-- `frame_status::request::uses_number` meets its contract: the table says so of these operations and of no others.
 use Rattle.frame_status.proofs.Codes.{number-used, number-unused}
-use Rattle.frame_status.proofs.well_formed.uses_number.Goals as goal
-use Rattle.frame_status.proofs.well_formed.uses_number.Goals.{in-Close, in_default}
+use Rattle.frame_status.proofs.request.uses_number.Goals as goal
+use Rattle.frame_status.proofs.request.uses_number.Goals.{in-Close, in_default}
 
 pub returns : goal.returns
 returns c =
