@@ -4,10 +4,12 @@ use mathlib.Core.Path.{◌≡◌, refl, sym, ap, ◌∙◌}
 use mathlib.Core.List.{List, [], ◌∷◌, ◌++◌, append-nil, append_assoc}
 use Prim.Native.Nat.{ℕ, zero, suc, ◌+◌, ◌-◌, ◌≤◌, ◌<◌, min}
 use native.Mathlib.Omega.{arith}
-use lib.ListN.{length, take, drop, length-append}
+use lib.ListN.{length, take, drop, length-append, length-drop}
 use borrow.Author.Tests.{lt-ltb, le-ltb}
-use lib.Seq.{take-add, paste}
+use lib.Seq.{take-add, drop-drop, paste}
 use Rattle.geometry.specs.Limits.{most_marks, last_column}
+use Rattle.std.proofs.Common.{false-eqb, true-eqb}
+use Rattle.std.specs.Prelude.{◌==◌}
 use Rattle.lists.proofs.Cuts.{rest-is}
 use Rattle.text_fixed_form.specs.Mark.{mark_of}
 use Rattle.text_hex.specs.Lines.{line_of, line_size}
@@ -16,7 +18,6 @@ use Rattle.text_hex.proofs.Written.{length-of-line}
 use Rattle.text_lines.specs.Lines.{Stands, Holds, Gathers, Finishes, ended, left, trim, piece}
 use Rattle.text_lines.specs.declared.Gathered.{Gathered}
 use Rattle.text_lines.specs.declared.Gathering.TheVariants.{Whole, Unfinished}
-use Rattle.text_lines.proofs.Chunks.{rest_some, step-within, step_less}
 use Rattle.text_lines.proofs.Held.{lines-all-ended, lines-one-open}
 use Rattle.text_lines.proofs.Taken.{line-more, nothing_left, no-line-more, more_left}
 use Rattle.protocol.specs.Frames.{frame_of_command}
@@ -24,7 +25,7 @@ use Rattle.protocol.specs.declared.Frame.{Frame}
 use Rattle.program_insertions.specs.Frames.{insertion, frame_at, frames_of_file, frames_from, frames_of_lines, frame_after}
 use Rattle.program_insertions.specs.Stream.{FileFollows, FileStarts, FileTakesIn, GoesOn, PutsFrame, FileEnds}
 use Rattle.program_insertions.specs.declared.Progress.{Progress}
-use Rattle.program_insertions.specs.declared.FileTaken.{FileTaken}
+use Rattle.program_streams.specs.declared.Taken.{Taken}
 use Rattle.program_insertions.proofs.Frames.{frames-of-one-more, frame-after-limit, frame-of-line-held}
 
 -- the frames with one line more, where the frame of what is kept of it has been put
@@ -46,7 +47,7 @@ module _ (bytes : List ℕ) (before : Progress) (keep keep' out out' : List ℕ)
   module _ (taken : ℕ) (line : Gathered) (gathers : Gathers true bytes before.line keep keep' (Whole taken line)) where
     pub line_taken : (start : Gathered) (front : List ℕ) (result lines : ℕ) → ((returns : Bool) (kept : List ℕ) → Stands returns [] start kept)
         → front ≡ take line.kept keep' → PutsFrame front before.lines out out' filled result → lines ≡ min most_marks (before.lines + 1)
-        → GoesOn bytes before keep keep' out out' filled (record { taken = taken; filled = result; after = record { line = start; lines = lines } })
+        → GoesOn bytes before (record { line = start; lines = lines }) keep keep' out out' filled (record { taken = taken; filled = result })
     line_taken start front result lines file-starts is_front put is =
         record {
           takes = record {
@@ -78,7 +79,7 @@ module _ (bytes : List ℕ) (before : Progress) (keep keep' out out' : List ℕ)
 
   -- no line has ended
   module _ (line : Gathered) (gathers : Gathers true bytes before.line keep keep' (Unfinished line)) where
-    pub none-taken : GoesOn bytes before keep keep' out out filled (record { taken = length bytes; filled = filled; after = record { line = line; lines = before.lines } })
+    pub none-taken : GoesOn bytes before (record { line = line; lines = before.lines }) keep keep' out out filled (record { taken = length bytes; filled = filled })
     none-taken =
         record {
           takes = record {
@@ -112,27 +113,20 @@ file-starts line stands =
           record { line = stands true keep; columns = columns; lines = refl; room = omega arith; frames = refl };
     }
 
--- A whole chunk, taken in step by step into an empty buffer: what each step fills stands within the buffer, and each leaves less.
-pub filled_within : (chunk : List ℕ) (before : Progress) (keep keep' out out' : List ℕ) (result : FileTaken) → GoesOn chunk before keep keep' out out' 0 result
-    → result.filled ≤ length out'
-filled_within chunk before keep keep' out out' result on = on.takes.room (omega arith)
-
-pub frames-less : (chunk : List ℕ) (at : ℕ) (before : Progress) (keep keep' out out' : List ℕ) (result : FileTaken)
-    → GoesOn (take (length chunk - at) (drop at chunk)) before keep keep' out out' 0 result → line_size ≤ length out → at < length chunk
-    → length chunk - (at + result.taken) < length chunk - at
-frames-less chunk at before keep keep' out out' result on room below =
-    step_less chunk at result.taken on.takes.within below (on.onward (omega arith) (rest_some chunk at below))
-
 -- The loop: what has been taken of a chunk so far follows, and nothing is filled where nothing was taken.
-pub record TakenSoFar (chunk : List ℕ) (before : Progress) (keep keep' out out' : List ℕ) (at filled : ℕ) (progress : Progress) : Type 0 where
-  pub takes : FileTakesIn chunk before keep keep' out out' 0 (record { taken = at; filled = filled; after = progress })
-  pub none : at ≡ 0 → filled ≡ 0
+pub record TakenSoFar (chunk rest : List ℕ) (before after : Progress) (keep keep' out out' : List ℕ) (filled : ℕ) : Type 0 where
+  pub taken : ℕ
+  pub left : rest ≡ drop taken chunk
+  pub takes : FileTakesIn chunk before after keep keep' out out' 0 (record { taken = taken; filled = filled })
+  pub none : taken ≡ 0 → filled ≡ 0
   pub room : filled ≤ length out'
 
 -- no byte has been taken yet
-pub taken_none : (chunk : List ℕ) (before : Progress) (keep out : List ℕ) → TakenSoFar chunk before keep keep out out 0 0 before
+pub taken_none : (chunk : List ℕ) (before : Progress) (keep out : List ℕ) → TakenSoFar chunk chunk before before keep keep out out 0
 taken_none chunk before keep out =
     record {
+      taken = 0;
+      left = refl;
       takes = record {
         within = omega arith;
         same = refl;
@@ -144,48 +138,57 @@ taken_none chunk before keep out =
       room = omega arith;
     }
 
--- where something is filled, something was taken
-started : (at filled : ℕ) → (at ≡ 0 → filled ≡ 0) → 0 < filled → 0 < at
-started zero filled none some = omega (arith, none refl)
-started (suc at) filled none some = omega arith
+-- where nothing was taken, the chunk is empty or there was no room at first
+started : (taken filled rest whole room : ℕ) → (taken ≡ 0 → filled ≡ 0) → (0 < rest → room - filled < line_size) → rest ≡ whole - taken
+    → line_size ≤ room → 0 < whole → 0 < taken
+started zero filled rest whole room none full left enough some = absurd (omega (arith, none refl, full (omega arith)))
+started (suc taken) filled rest whole room none full left enough some = omega arith
 
-module _ (chunk : List ℕ) (before between : Progress) (keep keep₁ out out₁ : List ℕ) (at filled : ℕ)
-    (so_far : TakenSoFar chunk before keep keep₁ out out₁ at filled between) where
-  -- a step more, from where bytes and room were left
-  module _ (keep₂ out₂ : List ℕ) (step : FileTaken) (part : GoesOn (take (length chunk - at) (drop at chunk)) between keep₁ keep₂ out₁ out₂ filled step)
-      (below : at < length chunk) (room : line_size ≤ length out₁ - filled) where
-    some : 0 < step.taken
-    some = part.onward (omega arith) (rest_some chunk at below)
+module _ (chunk rest : List ℕ) (before between : Progress) (keep keep₁ out out₁ : List ℕ) (filled : ℕ)
+    (so_far : TakenSoFar chunk rest before between keep keep₁ out out₁ filled) where
+  -- a step more, where bytes and room were left
+  pub taken_more : (empty : Bool) (after : Progress) (keep₂ out₂ : List ℕ) (step : Taken) → GoesOn rest between after keep₁ keep₂ out₁ out₂ filled step
+      → empty ≡ (length rest == 0) → empty ≡ false → line_size ≤ length out₁ - filled
+      → TakenSoFar chunk (take (length rest - step.taken) (drop step.taken rest)) before after keep keep₂ out out₂ step.filled
+  taken_more empty after keep₂ out₂ step part is some room =
+      let next : FileTakesIn (drop so_far.taken chunk) between after keep₁ keep₂ out₁ out₂ filled step = rw so_far.left at part.takes in
+      let more : 0 < step.taken = part.onward (omega arith) (omega (arith, false-eqb (length rest) 0 (sym some ∙ is))) in
+      record {
+        taken = so_far.taken + step.taken;
+        left = rest-is rest step.taken ∙ ap (drop step.taken) so_far.left ∙ drop-drop step.taken so_far.taken chunk;
+        takes = record {
+          within = omega (arith, so_far.takes.within, next.within, length-drop so_far.taken chunk);
+          same = next.same ∙ so_far.takes.same;
+          long = next.long ∙ so_far.takes.long;
+          room = λ _. next.room so_far.room;
+          follows =
+              λ input earlier f.
+              rw (take-add so_far.taken step.taken chunk, ← append_assoc input (take so_far.taken chunk) (take step.taken (drop so_far.taken chunk)))
+              (next.follows (input ++ take so_far.taken chunk) earlier (so_far.takes.follows input earlier f));
+        };
+        none = λ nothing. absurd (omega (arith, more));
+        room = next.room so_far.room;
+      }
 
-    pub taken-less : length chunk - (at + step.taken) < length chunk - at
-    taken-less = step_less chunk at step.taken part.takes.within below some
+  -- the chunk is at its end, or there is no room for a frame more
+  taken_all : (taken : ℕ) → taken ≡ length chunk - length rest → (0 < length rest → length out₁ - filled < line_size)
+      → GoesOn chunk before between keep keep₁ out out₁ 0 (record { taken = taken; filled = filled })
+  taken_all taken is full =
+      let behind : length rest ≡ length chunk - so_far.taken = ap length so_far.left ∙ length-drop so_far.taken chunk in
+      let same : taken ≡ so_far.taken = omega (arith, so_far.takes.within) in
+      record {
+        takes = rw same so_far.takes;
+        onward =
+            λ room some.
+            rw same (started so_far.taken filled (length rest) (length chunk) (length out₁) so_far.none full behind (omega (arith, so_far.takes.long)) some);
+      }
 
-    pub taken_more : TakenSoFar chunk before keep keep₂ out out₂ (at + step.taken) step.filled step.after
-    taken_more =
-        let next : FileTakesIn (drop at chunk) between keep₁ keep₂ out₁ out₂ filled step = rw (rest-is chunk at) at part.takes in
-        record {
-          takes = record {
-            within = step-within chunk at step.taken part.takes.within below;
-            same = next.same ∙ so_far.takes.same;
-            long = next.long ∙ so_far.takes.long;
-            room = λ _. next.room so_far.room;
-            follows =
-                λ input earlier f.
-                rw (take-add at step.taken chunk, ← append_assoc input (take at chunk) (take step.taken (drop at chunk)))
-                (next.follows (input ++ take at chunk) earlier (so_far.takes.follows input earlier f));
-          };
-          none = λ nothing. absurd (omega (arith, some));
-          room = next.room so_far.room;
-        }
+  pub chunk-used : (empty : Bool) → empty ≡ (length rest == 0) → empty ≡ true
+      → GoesOn chunk before between keep keep₁ out out₁ 0 (record { taken = length chunk - length rest; filled = filled })
+  chunk-used empty is none = taken_all (length chunk - length rest) refl (λ some. absurd (omega (arith, true-eqb (length rest) 0 (sym none ∙ is))))
 
-  -- there is no room for a frame more
-  pub room-used : length out₁ - filled < line_size → GoesOn chunk before keep keep₁ out out₁ 0 (record { taken = at; filled = filled; after = between })
-  room-used full =
-      record { takes = so_far.takes; onward = λ room some. started at filled so_far.none (omega (arith, so_far.takes.long)) }
-
-  -- the chunk is at its end
-  pub chunk-used : length chunk ≤ at → GoesOn chunk before keep keep₁ out out₁ 0 (record { taken = at; filled = filled; after = between })
-  chunk-used over = record { takes = so_far.takes; onward = λ room some. omega arith }
+  pub room-used : length out₁ - filled < line_size → GoesOn chunk before between keep keep₁ out out₁ 0 (record { taken = length chunk - length rest; filled = filled })
+  room-used full = taken_all (length chunk - length rest) refl (λ some. full)
 
 -- the frame of a line below the limit has been written behind what was filled
 pub frame-put : (line : List ℕ) (lines : ℕ) (out out' : List ℕ) (filled mark : ℕ) (frame : Frame) → filled + line_size ≤ length out → lines < most_marks

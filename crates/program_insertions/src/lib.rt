@@ -7,6 +7,7 @@ ghost use Rattle.text_hex.specs.Lines.{line_size};
 ghost use Rattle.program_insertions.specs.Stream.{FileStarts, PutsFrame, GoesOn, FileEnds};
 
 use geometry::Record;
+use program_streams::Taken;
 use protocol::{Command, Frame};
 use text_fixed_form::mark;
 use text_hex::{LINE_SIZE, write_line};
@@ -19,17 +20,6 @@ pub struct Progress {
     pub line: Gathered,
     // how many lines have been answered with a frame
     pub lines: usize,
-}
-
-// What came of a chunk's bytes.
-#[derive(Clone, Copy)]
-pub struct FileTaken {
-    // how many bytes were taken from the chunk's front
-    pub taken: usize,
-    // how many bytes of frames stand at the front of the output
-    pub filled: usize,
-    // how far the file has been read with them
-    pub after: Progress,
 }
 
 impl Progress {
@@ -46,61 +36,51 @@ impl Progress {
 
 // Takes a chunk's bytes in from the front and puts the frames of the lines that end among them into out, for as long as out has room
 // for one more.
-pub fn take_in(chunk: &[u8], before: Progress, keep: &mut [u8], out: &mut [u8]) -> FileTaken
-    ensures { GoesOn chunk.now before keep.old keep.new out.old out.new 0 result }
+pub fn take_in(chunk: &[u8], progress: &mut Progress, keep: &mut [u8], out: &mut [u8]) -> Taken
+    ensures { GoesOn chunk.now progress.old progress.new keep.old keep.new out.old out.new 0 result }
 {
-    let mut at = 0;
+    let mut rest = chunk;
     let mut filled = 0;
-    let mut progress = before;
-    while at < chunk.len() {
-        if out.len() - filled < LINE_SIZE {
-            return FileTaken {
-                taken: at,
-                filled,
-                after: progress,
-            };
-        }
-        let step = take_line(&chunk[at..], progress, keep, out, filled);
-        at += step.taken;
+    while !rest.is_empty() && out.len() - filled >= LINE_SIZE {
+        let step = take_line(rest, progress, keep, out, filled);
+        rest = &rest[step.taken..];
         filled = step.filled;
-        progress = step.after;
     }
-    FileTaken {
-        taken: at,
+    Taken {
+        taken: chunk.len() - rest.len(),
         filled,
-        after: progress,
     }
 }
 
 // Takes bytes in up to the end of a line, or all of them, and puts the line's frame behind the `filled` bytes of out.
 fn take_line(
     bytes: &[u8],
-    before: Progress,
+    progress: &mut Progress,
     keep: &mut [u8],
     out: &mut [u8],
     filled: usize,
-) -> FileTaken
+) -> Taken
     requires { filled + line_size ≤ length out.old }
-    ensures { GoesOn bytes.now before keep.old keep.new out.old out.new filled result }
+    ensures { GoesOn bytes.now progress.old progress.new keep.old keep.new out.old out.new filled result }
 {
+    let before = *progress;
     match gather(bytes, true, before.line, keep) {
         Gathering::Whole { taken, line } => {
             let front = first_bytes(keep, line.kept);
             let filled = put_frame(front, before.lines, out, filled);
-            FileTaken {
-                taken,
+            *progress = Progress {
+                line: Gathered::start(),
+                lines: one_more(before.lines),
+            };
+            Taken { taken, filled }
+        }
+        Gathering::Unfinished { line } => {
+            progress.line = line;
+            Taken {
+                taken: bytes.len(),
                 filled,
-                after: Progress {
-                    line: Gathered::start(),
-                    lines: one_more(before.lines),
-                },
             }
         }
-        Gathering::Unfinished { line } => FileTaken {
-            taken: bytes.len(),
-            filled,
-            after: Progress { line, ..before },
-        },
     }
 }
 
@@ -141,11 +121,7 @@ fn put_frame(line: &[u8], lines: usize, out: &mut [u8], filled: usize) -> usize
 fn one_more(lines: usize) -> usize
     ensures { result ≡ min most_marks (lines + 1) }
 {
-    if lines < Record::MOST_MARKS {
-        lines + 1
-    } else {
-        Record::MOST_MARKS
-    }
+    lines.saturating_add(1).min(Record::MOST_MARKS)
 }
 
 // the name that the marks go to

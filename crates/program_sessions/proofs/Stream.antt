@@ -4,9 +4,9 @@ use mathlib.Core.Bool.{Bool, false}
 use mathlib.Core.Logic.{⊎_elim}
 use mathlib.Core.Path.{◌≡◌, refl, sym, ap, ap₂, ◌∙◌}
 use mathlib.Core.List.{List, [], ◌∷◌, ◌++◌, map, map-append, append-nil}
-use Prim.Native.Nat.{ℕ, ◌+◌, ◌-◌, ◌*◌, ◌/◌, ◌≤◌, ◌<◌}
+use Prim.Native.Nat.{ℕ, ◌-◌, ◌*◌, ◌/◌, ◌≤◌}
 use native.Mathlib.Omega.{arith}
-use lib.ListN.{length, take, drop}
+use lib.ListN.{length, take}
 use Rattle.std.proofs.Common.{Option}
 use Rattle.geometry.specs.Limits.{frame_size, longest_commands, directory_size, block_size}
 use Rattle.lists.specs.Joins.{joined}
@@ -20,7 +20,6 @@ use Rattle.call_run.specs.Calls.{Formats}
 use Rattle.call_run.proofs.Outcomes.{length-cases}
 use Rattle.text_lines.specs.Lines.{Stands, line_feed, trims, trim, ended, left, lines_of}
 use Rattle.text_lines.specs.declared.Gathered.{Gathered}
-use Rattle.text_lines.proofs.Chunks.{rest_some, step_less}
 use Rattle.text_lines.proofs.Cut.{ended-append, left-append}
 use Rattle.text_lines.proofs.Held.{lines-all-ended, lines-one-open}
 use Rattle.text_hex.specs.Lines.{frame_of, line_size}
@@ -31,7 +30,7 @@ use Rattle.program_batches.specs.declared.Batch.{Batch}
 use Rattle.program_sessions.specs.Call.{Asks, AnswersLines}
 use Rattle.program_sessions.specs.Session.{answers_to_lines, state_after_lines, at_start, written_for, session_of}
 use Rattle.program_sessions.specs.Stream.{read_from, SessionFollows, SessionStarts, SessionTakesIn, SessionEnds}
-use Rattle.program_sessions.specs.declared.SessionTaken.{SessionTaken}
+use Rattle.program_streams.specs.declared.Taken.{Taken}
 use Rattle.program_sessions.proofs.Call.{asks-lines}
 use Rattle.program_sessions.proofs.Session.{state-append, written-append}
 
@@ -51,7 +50,7 @@ module _ (chunk : List ℕ) (before : Gathered) (keep keep' out out₁ zeros com
 
   -- and answered
   pub chunk-taken : (p q out₂ : List ℕ) (filled : ℕ) → filled ≡ line_size * batch.lines → AnswersLines p q (take (frame_size * batch.frames) commands) out₁ out₂ batch.lines
-      → SessionTakesIn chunk before keep keep' p q out out₂ (record { taken = batch.taken; filled = filled; line = batch.line })
+      → SessionTakesIn chunk before batch.line keep keep' p q out out₂ (record { taken = batch.taken; filled = filled })
   chunk-taken p q out₂ filled is done =
       record {
         within = read.reads.within;
@@ -90,13 +89,6 @@ module _ (chunk : List ℕ) (before : Gathered) (keep keep' out out₁ zeros com
             lines = written-with input written (take filled out₂) before keep p more f front ∙ ap written_for (sym all_read);
           }
 
--- a chunk, taken in step by step: each leaves less
-pub answers-less : (chunk : List ℕ) (at : ℕ) (before : Gathered) (keep keep' p q out out' : List ℕ) (result : SessionTaken)
-    → SessionTakesIn (take (length chunk - at) (drop at chunk)) before keep keep' p q out out' result → line_size ≤ length out → at < length chunk
-    → length chunk - (at + result.taken) < length chunk - at
-answers-less chunk at before keep keep' p q out out' result takes room below =
-    step_less chunk at result.taken takes.within below (takes.onward room (rest_some chunk at below))
-
 -- the input is over, and ended with a line feed or is empty
 pub ends-whole : (before : Gathered) (keep p out : List ℕ) → before.length ≡ 0 → SessionEnds before keep keep p p out out 0
 unfolding session_of trim trims
@@ -120,10 +112,10 @@ ends-whole before keep p out none =
     }
 
 -- the input is over, and a line feed was taken in for the one that its last line lacks
-pub ends_open : (before : Gathered) (keep keep' p q out out' : List ℕ) (taken : SessionTaken) → (before.length ≡ 0 → ⊥)
-    → SessionTakesIn (line_feed ∷ []) before keep keep' p q out out' taken → SessionEnds before keep keep' p q out out' taken.filled
+pub ends_open : (before after : Gathered) (keep keep' p q out out' : List ℕ) (taken : Taken) → (before.length ≡ 0 → ⊥)
+    → SessionTakesIn (line_feed ∷ []) before after keep keep' p q out out' taken → SessionEnds before keep keep' p q out out' taken.filled
 unfolding session_of ended trim trims
-ends_open before keep keep' p q out out' taken some takes =
+ends_open before after keep keep' p q out out' taken some takes =
     record {
       room = takes.room;
       same = takes.same;
@@ -133,7 +125,7 @@ ends_open before keep keep' p q out out' taken some takes =
       over =
           λ room input written f.
           let one : taken.taken ≡ 1 = omega (arith, takes.within, takes.onward room (omega arith)) in
-          let then : SessionFollows (input ++ (line_feed ∷ [])) (written ++ take taken.filled out') taken.line keep' q =
+          let then : SessionFollows (input ++ (line_feed ∷ [])) (written ++ take taken.filled out') after keep' q =
           rw one at (takes.follows input written f)
           in
           let all_read : map frame_of (lines_of false input) ≡ read_from (input ++ (line_feed ∷ [])) =

@@ -9,7 +9,7 @@ use Rattle.text_lines.specs.declared.Gathered.{Gathered}
 use Rattle.pool.specs.Meaning.{meaning}
 use Rattle.pool.specs.Sound.{Sound}
 use Rattle.program_sessions.specs.Session.{at_start, state_after_lines, written_for, session_of}
-use Rattle.program_sessions.specs.declared.SessionTaken.{SessionTaken}
+use Rattle.program_streams.specs.declared.Taken.{Taken}
 
 -- the lines that have ended in an input, each a frame or bad
 abbrev pub read_from : List ℕ → List (Option Frame)
@@ -40,7 +40,7 @@ pub record SessionStarts (p q : List ℕ) (result : Gathered) : Type 0 where
   pub follows : length p ≡ program_pool → (keep : List ℕ) → line_size ≤ length keep → SessionFollows [] [] result keep q
 
 -- bytes were taken from the front of a chunk, and with the lines at the front of out what is written follows the input
-pub record SessionTakesIn (chunk : List ℕ) (before : Gathered) (keep keep' p q out out' : List ℕ) (result : SessionTaken) : Type 0 where
+pub record SessionTakesIn (chunk : List ℕ) (before after : Gathered) (keep keep' p q out out' : List ℕ) (result : Taken) : Type 0 where
   pub within : result.taken ≤ length chunk
   pub onward : line_size ≤ length out → 0 < length chunk → 0 < result.taken
   pub room : result.filled ≤ length out'
@@ -50,7 +50,7 @@ pub record SessionTakesIn (chunk : List ℕ) (before : Gathered) (keep keep' p q
   -- a pool that isn't sound stays as it was
   pub refused : (Sound p → ⊥) → q ≡ p
   pub follows : (input written : List ℕ) → SessionFollows input written before keep p
-      → SessionFollows (input ++ take result.taken chunk) (written ++ take result.filled out') result.line keep' q
+      → SessionFollows (input ++ take result.taken chunk) (written ++ take result.filled out') after keep' q
 
 -- the input is over, and with the line at the front of out, if there is one, the session is whole where out has room for it
 pub record SessionEnds (before : Gathered) (keep keep' p q out out' : List ℕ) (result : ℕ) : Type 0 where

@@ -10,19 +10,9 @@ ghost use Rattle.program_sessions.specs.Stream.{SessionStarts, SessionTakesIn, S
 use call_run::{format, run};
 use geometry::Record;
 use program_batches::{complete, read_lines};
+use program_streams::Taken;
 use text_hex::LINE_SIZE;
 use text_lines::{Gathered, LINE_FEED};
-
-// What came of a chunk's bytes.
-#[derive(Clone, Copy)]
-pub struct SessionTaken {
-    // how many bytes were taken from the chunk's front
-    pub taken: usize,
-    // how many bytes of answer lines stand at the front of the output
-    pub filled: usize,
-    // the line that hasn't ended yet
-    pub line: Gathered,
-}
 
 // Formats the pool. No line has been read.
 pub fn start(pool: &mut [u8]) -> Gathered
@@ -35,23 +25,22 @@ pub fn start(pool: &mut [u8]) -> Gathered
 // Takes a chunk's bytes in from the front and answers the lines that end among them, for as long as out has room.
 pub fn take_in(
     chunk: &[u8],
-    before: Gathered,
+    line: &mut Gathered,
     keep: &mut [u8],
     pool: &mut [u8],
     out: &mut [u8],
-) -> SessionTaken
-    ensures { SessionTakesIn chunk.now before keep.old keep.new
+) -> Taken
+    ensures { SessionTakesIn chunk.now line.old line.new keep.old keep.new
         pool.old pool.new out.old out.new result }
 {
     let mut commands = [0u8; Record::LONGEST_COMMANDS];
-    let batch = read_lines(chunk, before, keep, out, &mut commands);
+    let batch = read_lines(chunk, *line, keep, out, &mut commands);
+    *line = batch.line;
     let used = Record::FRAME_SIZE * batch.frames;
     let filled = answer(pool, &commands[..used], out, batch.lines);
-    let line = batch.line;
-    SessionTaken {
+    Taken {
         taken: batch.taken,
         filled,
-        line,
     }
 }
 
@@ -68,12 +57,12 @@ fn answer(pool: &mut [u8], commands: &[u8], out: &mut [u8], lines: usize) -> usi
 }
 
 // The input is over: answers its last line, if that has no line feed but a byte, as if the line feed had come.
-pub fn finish(before: Gathered, keep: &mut [u8], pool: &mut [u8], out: &mut [u8]) -> usize
-    ensures { SessionEnds before keep.old keep.new pool.old pool.new
+pub fn finish(mut line: Gathered, keep: &mut [u8], pool: &mut [u8], out: &mut [u8]) -> usize
+    ensures { SessionEnds line keep.old keep.new pool.old pool.new
         out.old out.new result }
 {
-    if before.length == 0 {
+    if line.length == 0 {
         return 0;
     }
-    take_in(&[LINE_FEED], before, keep, pool, out).filled
+    take_in(&[LINE_FEED], &mut line, keep, pool, out).filled
 }

@@ -2,8 +2,8 @@
 use Rattle.program_sessions.proofs.Stream.{ends-whole, ends_open}
 use Rattle.program_sessions.proofs.finish.Goals as goal
 
-pub returns-then-before-eq0 : goal.returns-then-before-eq0
-returns-then-before-eq0 c = search ends-whole
+pub returns-then-line-eq0 : goal.returns-then-line-eq0
+returns-then-line-eq0 c = search ends-whole
 
 pub returns : goal.returns
 returns c = search ends_open
