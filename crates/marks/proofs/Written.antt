@@ -13,7 +13,10 @@ pub frames-written : (chunk : List ℕ) (before after : Progress) (keep keep' ou
     → GoesOn chunk before after keep keep' out out' 0 result → (input written : List ℕ) → FileFollows input written before keep [] 0
     → FileFollows (input ++ take result.taken chunk) (written ++ take result.filled out') after keep' [] 0
 frames-written chunk before after keep keep' out out' result on input written f =
-    let next = on.takes.follows input written (record { line = f.line; columns = f.columns; lines = f.lines; room = omega arith; frames = f.frames }) in
+    let none : FileFollows input written before keep out 0 =
+    record { line = f.line; columns = f.columns; lines = f.lines; room = omega arith; frames = f.frames }
+    in
+    let next = on.takes.follows input written none in
     record {
       line = next.line;
       columns = next.columns;

@@ -1,13 +1,14 @@
 -- What has been passed on so far: nothing at first, then the bytes of one step more.
-use Rattle.std.proofs.Common.{◌≡◌, ℕ, ◌≤◌, ◌+◌, ◌-◌, ◌^◌, List, [], ◌++◌, length, take, drop, sym, ap, subst, ◌∙◌, append_assoc, append-nil, take-append-drop, length-append, length-take-le, arith}
+use Rattle.std.proofs.Common.{◌≡◌, ℕ, ◌≤◌, ◌+◌, ◌-◌, ◌^◌, List, [], ◌++◌, length, take, drop, sym, ap, subst, ◌∙◌}
+use Rattle.std.proofs.Common.{append_assoc, append-nil, take-append-drop, length-append, length-take-le, arith}
 use Rattle.std.specs.Prelude.{Option, None, Some}
 use Rattle.std.specs.Io.KnownBytes.{Appends, Consumes, IsAtEnd}
 use Rattle.std.proofs.KnownBytes.{Appends-trans, Consumes-trans}
 use Rattle.program_streams.specs.Passing.{PassesOn, PassesRest, WritesAll}
 
 -- all bytes of a known input were read, and what is written for them was appended
-whole-written : (filtered : List ℕ → List ℕ) (first left old new : Option (List ℕ)) (read : List ℕ) → Consumes first left (read ++ []) → IsAtEnd left
-    → Appends old new (filtered read) → WritesAll filtered first old new
+whole-written : (filtered : List ℕ → List ℕ) (first left old new : Option (List ℕ)) (read : List ℕ) → Consumes first left (read ++ [])
+    → IsAtEnd left → Appends old new (filtered read) → WritesAll filtered first old new
 whole-written filtered None left old new read all end written = tt
 whole-written filtered (Some bytes) None old new read all end written = absurd all
 whole-written filtered (Some bytes) (Some rest) old new read all end written =
@@ -48,8 +49,9 @@ module _ {S : Type 0} (follows : List ℕ → List ℕ → S → Type 0) where
 
 module _ {S : Type 0} {follows : List ℕ → List ℕ → S → Type 0} {before between : S} {old mid : Option (List ℕ)} where
   -- a step more, by some bytes of the rest
-  pub passed-more : {chunk rest : List ℕ} (rest' : List ℕ) (after : S) (new : Option (List ℕ)) (n : ℕ) → PassedSoFar follows chunk rest before between old mid
-      → rest' ≡ drop n rest → PassesOn follows (take n rest) between after mid new → PassedSoFar follows chunk rest' before after old new
+  pub passed-more : {chunk rest : List ℕ} (rest' : List ℕ) (after : S) (new : Option (List ℕ)) (n : ℕ)
+      → PassedSoFar follows chunk rest before between old mid → rest' ≡ drop n rest
+      → PassesOn follows (take n rest) between after mid new → PassedSoFar follows chunk rest' before after old new
   passed-more {rest = rest} rest' after new n so_far is step =
       record {
         front = so_far.front ++ take n rest;
@@ -63,7 +65,8 @@ module _ {S : Type 0} {follows : List ℕ → List ℕ → S → Type 0} {before
   module _ {first left : Option (List ℕ)} {turns : ℕ} (so_far : PassedAll follows first left before between old mid turns) where
     -- a turn more, that read some bytes
     pub passed-turn : (left' new : Option (List ℕ)) (after : S) (n : ℕ) (bytes : List ℕ) → (n ≡ 0 → ⊥) → n ≤ length bytes
-        → Consumes left left' (take n bytes) → PassesOn follows (take n bytes) between after mid new → PassedAll follows first left' before after old new (turns + 1)
+        → Consumes left left' (take n bytes) → PassesOn follows (take n bytes) between after mid new
+        → PassedAll follows first left' before after old new (turns + 1)
     passed-turn left' new after n bytes some within consumes step =
         record {
           read = so_far.read ++ take n bytes;

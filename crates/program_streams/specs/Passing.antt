@@ -1,7 +1,6 @@
 -- What passing an input through a filter writes, where the bytes of the input and of the output are known.
-use Rattle.std.specs.Prelude.{◌≡◌, Option, None, Some, Result, Ok, Err, ⊤, List, ◌++◌, ℕ, ◌-◌, ◌^◌, ◌<◌, length}
+use Rattle.std.specs.Prelude.{◌≡◌, Option, None, Some, ⊤, List, ◌++◌, ℕ, ◌-◌, ◌^◌, ◌<◌, length}
 use Rattle.std.specs.Io.KnownBytes.{Appends}
-use Rattle.program_streams.specs.declared.Failure.{Failure}
 
 -- bytes were taken in, and what is written for them was appended to the output: whatever the filter followed before, it follows with them
 abbrev pub PassesOn : {S : Type 0} → (List ℕ → List ℕ → S → Type 0) → List ℕ → S → S → Option (List ℕ) → Option (List ℕ) → Type 0
@@ -19,8 +18,3 @@ PassesRest follows filtered before old new =
 abbrev pub WritesAll : (List ℕ → List ℕ) → Option (List ℕ) → Option (List ℕ) → Option (List ℕ) → Type 0
 WritesAll filtered None old new = ⊤
 WritesAll filtered (Some bytes) old new = length bytes < 2 ^ 64 - 1 → Appends old new (filtered bytes)
-
--- the exit status: 0, or 1 after a failure
-abbrev pub status_of : Result (Unit {0}) Failure → ℕ
-status_of (Ok done) = 0
-status_of (Err failure) = 1

@@ -2,11 +2,12 @@
 // is written to standard output. What the filter makes of the bytes is its own.
 #![tactic(auto)]
 
-ghost use Rattle.std.specs.Prelude.{◌≡◌, ◌≤◌, ◌<◌, List, [], ◌++◌, ℕ, length, take, OnOk};
+ghost use Rattle.std.specs.Prelude.{Some, ◌≡◌, ◌≤◌, ◌<◌, List, [], ◌++◌, ℕ, length, take, OnOk};
 ghost use Rattle.std.specs.Process.{exit_status};
 ghost use Rattle.std.specs.Io.{ReadsAtMost};
 ghost use Rattle.std.specs.Io.KnownBytes.{Appends, ReadConsumes};
-ghost use Rattle.program_streams.specs.Passing.{PassesOn, PassesRest, WritesAll, status_of};
+ghost use Rattle.program_streams.specs.Passing.{PassesOn, PassesRest, WritesAll};
+ghost use Rattle.program_streams.specs.Failing.{told_of, status_of};
 
 use std::error::Error;
 use std::fmt;
@@ -57,6 +58,8 @@ pub enum Failure {
 }
 
 impl fmt::Display for Failure {
+    ghost output = { λ failure. Some (told_of failure) };
+
     fn fmt<W: fmt::Write>(&self, f: &mut fmt::Formatter<W>) -> fmt::Result {
         match self {
             Failure::Reading => write!(f, "standard input can't be read"),
@@ -67,7 +70,7 @@ impl fmt::Display for Failure {
 
 impl Error for Failure {}
 
-// Reads to the end of the input and writes what the filter makes of it. A chunk holds what is read at once, and out what is written at once.
+// Reads to the end of the input and writes what the filter makes of it: a chunk at once is read, and as much as out holds is written.
 // A proved loop has to end, and nothing says that the input does: the turns are counted up to a number that no run reaches.
 pub fn pass<R: Read, W: Write, F: Filter>(
     input: &mut R,

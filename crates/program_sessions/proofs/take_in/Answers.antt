@@ -1,12 +1,7 @@
 -- `program_sessions::take_in` meets its contract: the lines read are what the call needs, and their answers follow what was written.
-use mathlib.Core.Path.{sym}
 use borrow.Author.Rules.{rules}
-use lib.Seq.{length-take-le}
 use Rattle.program_sessions.proofs.Stream.{asks-batch, chunk-taken}
 use Rattle.program_sessions.proofs.take_in.Goals as goal
-
-pub slice_bounds-answer-end : goal.slice_bounds-answer-end
-slice_bounds-answer-end c = sym (length-take-le _ _ (search rules))
 
 pub answer-filled-requires : goal.answer-filled-requires
 answer-filled-requires c = search (asks-batch, rules)

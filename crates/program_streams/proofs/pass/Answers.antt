@@ -7,7 +7,8 @@ pub loop-turn-preserved : goal.loop-turn-preserved
 loop-turn-preserved g c =
     let read = c.in_ok-read in (
       search rules,
-      passed-turn c.loop-turn.invariant.1 _ _ _ read.read c.read_in.new.chunk c.if-read-eq0.false read.ensures.bound.0 read.ensures.bytes.0 c.in_ok-pass_chunk.ensures,
+      passed-turn c.loop-turn.invariant.1 _ _ _ read.read c.read_in.new.chunk c.if-read-eq0.false
+          read.ensures.bound.0 read.ensures.bytes.0 c.in_ok-pass_chunk.ensures,
     )
 
 pub returns-then-read-eq0 : goal.returns-then-read-eq0

@@ -6,7 +6,8 @@ use Rattle.program_streams.proofs.pass_chunk.Given as goal
 abbrev pub invariant-loop-rest : goal.invariant-loop-rest
 invariant-loop-rest g l =
     (g.F.Filter.room ≤ length l.out)
-    × PassedSoFar g.F.Filter.follows l.chunk l.rest l.initial.filter l.filter (g.W.Write.contents l.initial.output) (g.W.Write.contents l.output)
+    × PassedSoFar g.F.Filter.follows l.chunk l.rest l.initial.filter l.filter
+    (g.W.Write.contents l.initial.output) (g.W.Write.contents l.output)
 
 abbrev pub decreases-loop-rest : goal.decreases-loop-rest
 decreases-loop-rest g l = length l.rest
