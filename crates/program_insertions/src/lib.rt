@@ -93,8 +93,7 @@ pub fn finish(before: Progress, keep: &mut [u8], out: &mut [u8]) -> usize
     if line.length == 0 {
         return 0;
     }
-    let kept = line.kept;
-    put_frame(first_bytes(keep, kept), before.lines, out, 0)
+    put_frame(first_bytes(keep, line.kept), before.lines, out, 0)
 }
 
 // Puts the frame of a line after so many others behind the `filled` bytes of out, and answers how many are filled then. Lines past the
