@@ -1,16 +1,17 @@
 -- What each step leaves of `FileFollows`. A line that ends brings its frame, by the laws on one line more; bytes that end none are gathered.
 use mathlib.Core.Bool.{Bool, true, false}
-use mathlib.Core.Path.{◌≡◌, refl, sym, ap, ◌∙◌}
+use mathlib.Core.Path.{◌≡◌, refl, sym, ap, ap₂, ◌∙◌}
 use mathlib.Core.List.{List, [], ◌∷◌, ◌++◌, append-nil, append_assoc}
 use Prim.Native.Nat.{ℕ, zero, suc, ◌+◌, ◌-◌, ◌≤◌, ◌<◌, min}
 use native.Mathlib.Omega.{arith}
 use lib.ListN.{length, take, drop, length-append, length-drop}
 use borrow.Author.Tests.{lt-ltb, le-ltb}
-use lib.Seq.{take-add, drop-drop, paste}
+use borrow.Rule.Slice.PartMut.{mid_of, post_of, put_mid, same_len_mid, take_put}
+use lib.Seq.{take-add, take-append-le, drop-drop, drop_at, length-take-le, paste}
 use Rattle.geometry.specs.Limits.{most_marks, last_column}
 use Rattle.std.proofs.Common.{false-eqb, true-eqb}
 use Rattle.std.specs.Prelude.{◌==◌}
-use Rattle.lists.proofs.Cuts.{rest-is}
+use Rattle.lists.proofs.Cuts.{cut-length, rest-is}
 use Rattle.text_fixed_form.specs.Mark.{mark_of}
 use Rattle.text_hex.specs.Lines.{line_of, line_size}
 use Rattle.text_hex.proofs.Fronts.{front-with, long-with}
@@ -146,29 +147,62 @@ started (suc taken) filled rest whole room none full left enough some = omega ar
 
 module _ (chunk rest : List ℕ) (before between : Progress) (keep keep₁ out out₁ : List ℕ) (filled : ℕ)
     (so_far : TakenSoFar chunk rest before between keep keep₁ out out₁ filled) where
-  -- a step more, where bytes and room were left
-  pub taken_more : (empty : Bool) (after : Progress) (keep₂ out₂ : List ℕ) (step : Taken) → GoesOn rest between after keep₁ keep₂ out₁ out₂ filled step
-      → empty ≡ (length rest == 0) → empty ≡ false → line_size ≤ length out₁ - filled
-      → TakenSoFar chunk (take (length rest - step.taken) (drop step.taken rest)) before after keep keep₂ out out₂ step.filled
-  taken_more empty after keep₂ out₂ step part is some room =
-      let next : FileTakesIn (drop so_far.taken chunk) between after keep₁ keep₂ out₁ out₂ filled step = rw so_far.left at part.takes in
-      let more : 0 < step.taken = part.onward (omega arith) (omega (arith, false-eqb (length rest) 0 (sym some ∙ is))) in
-      record {
-        taken = so_far.taken + step.taken;
-        left = rest-is rest step.taken ∙ ap (drop step.taken) so_far.left ∙ drop-drop step.taken so_far.taken chunk;
-        takes = record {
-          within = omega (arith, so_far.takes.within, next.within, length-drop so_far.taken chunk);
-          same = next.same ∙ so_far.takes.same;
-          long = next.long ∙ so_far.takes.long;
-          room = λ _. next.room so_far.room;
-          follows =
-              λ input earlier f.
-              rw (take-add so_far.taken step.taken chunk, ← append_assoc input (take so_far.taken chunk) (take step.taken (drop so_far.taken chunk)))
-              (next.follows (input ++ take so_far.taken chunk) earlier (so_far.takes.follows input earlier f));
-        };
-        none = λ nothing. absurd (omega (arith, more));
-        room = next.room so_far.room;
-      }
+  -- a step more, where bytes and room were left: its frames stand behind those that were there
+  module _ (empty : Bool) (after : Progress) (keep₂ room₂ : List ℕ) (step : Taken)
+      (part : GoesOn rest between after keep₁ keep₂ (mid_of filled (length out₁ - filled) out₁) room₂ 0 step)
+      (is : empty ≡ (length rest == 0)) (some : empty ≡ false) (room : line_size ≤ length out₁ - filled) where
+    abbrev room₁ : List ℕ
+    room₁ = mid_of filled (length out₁ - filled) out₁
+
+    abbrev out₂ : List ℕ
+    out₂ = put_mid filled (length out₁ - filled) out₁ room₂
+
+    front : take (filled + step.filled) out₂ ≡ take filled out₁ ++ take step.filled room₂
+    front =
+        take-add filled step.filled out₂
+        ∙ ap₂ (λ xs ys. xs ++ take step.filled ys) (take_put filled (length out₁ - filled) out₁ room₂ so_far.room)
+        (drop_at (take filled out₁) (room₂ ++ post_of filled (length out₁ - filled) out₁) filled (length-take-le filled out₁ so_far.room))
+        ∙ ap (λ ys. take filled out₁ ++ ys) (take-append-le step.filled room₂ (post_of filled (length out₁ - filled) out₁) (part.takes.room (omega arith)))
+
+    pub taken_more : TakenSoFar chunk (take (length rest - step.taken) (drop step.taken rest)) before after keep keep₂ out out₂ (filled + step.filled)
+    taken_more =
+        let next : FileTakesIn (drop so_far.taken chunk) between after keep₁ keep₂ room₁ room₂ 0 step = rw so_far.left at part.takes in
+        let long : length room₁ ≡ length out₁ - filled = cut-length out₁ filled (length out₁ - filled) (omega (arith, so_far.room)) in
+        let more : 0 < step.taken = part.onward (omega arith) (omega (arith, false-eqb (length rest) 0 (sym some ∙ is))) in
+        let same : length out₂ ≡ length out₁ = same_len_mid filled (length out₁ - filled) out₁ room₂ next.long in
+        let within : filled + step.filled ≤ length out₂ = omega (arith, next.long, next.room (omega arith), so_far.room) in
+        record {
+          taken = so_far.taken + step.taken;
+          left = rest-is rest step.taken ∙ ap (drop step.taken) so_far.left ∙ drop-drop step.taken so_far.taken chunk;
+          takes = record {
+            within = omega (arith, so_far.takes.within, next.within, length-drop so_far.taken chunk);
+            same = next.same ∙ so_far.takes.same;
+            long = same ∙ so_far.takes.long;
+            room = λ _. within;
+            follows =
+                λ input earlier f.
+                rw (take-add so_far.taken step.taken chunk, ← append_assoc input (take so_far.taken chunk) (take step.taken (drop so_far.taken chunk)))
+                (follows (input ++ take so_far.taken chunk) earlier next within (so_far.takes.follows input earlier f));
+          };
+          none = λ nothing. absurd (omega (arith, more));
+          room = within;
+        }
+      where
+        follows : (input earlier : List ℕ) → FileTakesIn (drop so_far.taken chunk) between after keep₁ keep₂ room₁ room₂ 0 step
+            → filled + step.filled ≤ length out₂ → FileFollows input earlier between keep₁ out₁ filled
+            → FileFollows (input ++ take step.taken (drop so_far.taken chunk)) earlier after keep₂ out₂ (filled + step.filled)
+        follows input earlier next within f =
+            let old : FileFollows input (earlier ++ take filled out₁) between keep₁ room₁ 0 =
+            record { line = f.line; columns = f.columns; lines = f.lines; room = omega arith; frames = f.frames ∙ sym (append-nil (earlier ++ take filled out₁)) }
+            in
+            let new = next.follows input (earlier ++ take filled out₁) old in
+            record {
+              line = new.line;
+              columns = new.columns;
+              lines = new.lines;
+              room = within;
+              frames = new.frames ∙ append_assoc earlier (take filled out₁) (take step.filled room₂) ∙ ap (λ xs. earlier ++ xs) (sym front);
+            }
 
   -- the chunk is at its end, or there is no room for a frame more
   taken_all : (taken : ℕ) → taken ≡ length chunk - length rest → (0 < length rest → length out₁ - filled < line_size)
@@ -190,28 +224,24 @@ module _ (chunk rest : List ℕ) (before between : Progress) (keep keep₁ out o
   pub room-used : length out₁ - filled < line_size → GoesOn chunk before between keep keep₁ out out₁ 0 (record { taken = length chunk - length rest; filled = filled })
   room-used full = taken_all (length chunk - length rest) refl (λ some. full)
 
--- the frame of a line below the limit has been written behind what was filled
-pub frame-put : (line : List ℕ) (lines : ℕ) (out out' : List ℕ) (filled mark : ℕ) (frame : Frame) → filled + line_size ≤ length out → lines < most_marks
-    → mark ≡ mark_of line → frame ≡ frame_of_command (insertion (lines + 1) mark) → out' ≡ paste out filled (line_of frame) line_size
-    → PutsFrame line lines out out' filled (filled + line_size)
+-- the frame of a line below the limit has been written at the front
+pub frame-put : (line : List ℕ) (lines : ℕ) (out out' : List ℕ) (mark : ℕ) (frame : Frame) → line_size ≤ length out → lines < most_marks
+    → mark ≡ mark_of line → frame ≡ frame_of_command (insertion (lines + 1) mark) → out' ≡ paste out 0 (line_of frame) line_size
+    → PutsFrame line lines out out' 0 line_size
 unfolding frame_after frame_at
-frame-put line lines out out' filled mark frame room below is inserts put =
+frame-put line lines out out' mark frame room below is inserts put =
     let long : length (line_of frame) ≡ line_size = length-of-line frame in
-    let same : length out' ≡ length out = long-with out out' (line_of frame) filled line_size (filled + line_size) refl long room put in
+    let same : length out' ≡ length out = long-with out out' (line_of frame) 0 line_size line_size refl long room put in
     record {
       long = same;
       room = omega arith;
-      frame =
-          front-with out out' (line_of frame) filled line_size (filled + line_size) refl long room put
-          ∙ ap (λ l. take filled out ++ l) (rw (lt-ltb lines most_marks below, inserts, is));
+      frame = front-with out out' (line_of frame) 0 line_size line_size refl long room put ∙ rw (lt-ltb lines most_marks below, inserts, is);
     }
 
 -- past the limit nothing is written
-pub no-frame-put : (line : List ℕ) (lines : ℕ) (out : List ℕ) (filled : ℕ) → filled + line_size ≤ length out → most_marks ≤ lines
-    → PutsFrame line lines out out filled filled
+pub no-frame-put : (line : List ℕ) (lines : ℕ) (out : List ℕ) → most_marks ≤ lines → PutsFrame line lines out out 0 0
 unfolding frame_after
-no-frame-put line lines out filled room over =
-    record { long = refl; room = omega arith; frame = rw (le-ltb lines most_marks over, append-nil) }
+no-frame-put line lines out over = record { long = refl; room = omega arith; frame = rw (le-ltb lines most_marks over) }
 
 module _ (before : Progress) (keep keep' out out' : List ℕ) (last : Gathered) (finishes : Finishes before.line keep keep' last) where
   -- the input ends with a line feed, or is empty

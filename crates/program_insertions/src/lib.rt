@@ -42,9 +42,9 @@ pub fn take_in(chunk: &[u8], progress: &mut Progress, keep: &mut [u8], out: &mut
     let mut rest = chunk;
     let mut filled = 0;
     while !rest.is_empty() && out.len() - filled >= LINE_SIZE {
-        let step = take_line(rest, progress, keep, out, filled);
+        let step = take_line(rest, progress, keep, &mut out[filled..]);
         rest = &rest[step.taken..];
-        filled = step.filled;
+        filled += step.filled;
     }
     Taken {
         taken: chunk.len() - rest.len(),
@@ -52,22 +52,16 @@ pub fn take_in(chunk: &[u8], progress: &mut Progress, keep: &mut [u8], out: &mut
     }
 }
 
-// Takes bytes in up to the end of a line, or all of them, and puts the line's frame behind the `filled` bytes of out.
-fn take_line(
-    bytes: &[u8],
-    progress: &mut Progress,
-    keep: &mut [u8],
-    out: &mut [u8],
-    filled: usize,
-) -> Taken
-    requires { filled + line_size ≤ length out.old }
-    ensures { GoesOn bytes.now progress.old progress.new keep.old keep.new out.old out.new filled result }
+// Takes bytes in up to the end of a line, or all of them, and puts the line's frame at the front of out.
+fn take_line(bytes: &[u8], progress: &mut Progress, keep: &mut [u8], out: &mut [u8]) -> Taken
+    requires { line_size ≤ length out.old }
+    ensures { GoesOn bytes.now progress.old progress.new keep.old keep.new out.old out.new 0 result }
 {
     let before = *progress;
     match gather(bytes, true, before.line, keep) {
         Gathering::Whole { taken, line } => {
             let front = first_bytes(keep, line.kept);
-            let filled = put_frame(front, before.lines, out, filled);
+            let filled = put_frame(front, before.lines, out);
             *progress = Progress {
                 line: Gathered::start(),
                 lines: one_more(before.lines),
@@ -78,7 +72,7 @@ fn take_line(
             progress.line = line;
             Taken {
                 taken: bytes.len(),
-                filled,
+                filled: 0,
             }
         }
     }
@@ -93,14 +87,13 @@ pub fn finish(before: Progress, keep: &mut [u8], out: &mut [u8]) -> usize
     if line.length == 0 {
         return 0;
     }
-    put_frame(first_bytes(keep, line.kept), before.lines, out, 0)
+    put_frame(first_bytes(keep, line.kept), before.lines, out)
 }
 
-// Puts the frame of a line after so many others behind the `filled` bytes of out, and answers how many are filled then. Lines past the
-// limit have none.
-fn put_frame(line: &[u8], lines: usize, out: &mut [u8], filled: usize) -> usize
-    requires { filled + line_size ≤ length out.old }
-    ensures { PutsFrame line.now lines out.old out.new filled result }
+// Puts the frame of a line after so many others at the front of out, and answers how many bytes it has. Lines past the limit have none.
+fn put_frame(line: &[u8], lines: usize, out: &mut [u8]) -> usize
+    requires { line_size ≤ length out.old }
+    ensures { PutsFrame line.now lines out.old out.new 0 result }
 {
     if lines < Record::MOST_MARKS {
         let insertion = Command {
@@ -110,10 +103,10 @@ fn put_frame(line: &[u8], lines: usize, out: &mut [u8], filled: usize) -> usize
             fourth: 0,
             number: (lines + 1) as u32,
         };
-        write_line(out, filled, Frame::from(insertion));
-        return filled + LINE_SIZE;
+        write_line(out, 0, Frame::from(insertion));
+        return LINE_SIZE;
     }
-    filled
+    0
 }
 
 // One line more, up to the limit.
