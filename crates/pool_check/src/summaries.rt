@@ -52,7 +52,7 @@ impl Tree<'_> {
         let marks = padded(pool, leaf);
         let mut left = many;
         let mut c = 0;
-        // A `for` over the symbols that ends where nothing is left makes the whole check slower by 8 percent: 4,870 ns, and not 4,460.
+        // A `for` over the symbols, left where nothing is left, makes the whole check slower by 12 percent: 4,890 ns and not 4,350.
         while left > 0 {
             let told = count_below(pool, b, k, c);
             if !claim_holds(&marks, c, told, alphabet) {
