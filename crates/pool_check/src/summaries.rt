@@ -44,6 +44,7 @@ impl Tree<'_> {
         ensures { Says result (Matches self.now.pool.bytes.now self.now.alphabet 0 b k leaf) }
     {
         let pool = self.pool.bytes;
+        // read before the loop: read in it, it made the whole check a fifth slower
         let alphabet = self.alphabet;
         let many = entry_count(pool, leaf);
         if marks_below(pool, b, k) != many || all_claimed(pool, b, k) != many {
@@ -78,7 +79,8 @@ fn all_claimed(pool: &[u8], b: usize, k: usize) -> usize
 }
 
 // A leaf's marks, filled up to a block's length with a number that is no symbol. A count over them has no remainder that the compiler would
-// count one by one. The leaf's size and the place are bytes, so that sixteen are filled at once.
+// count one by one. The leaf's size and the place are bytes, so that sixteen are filled at once; a copy of the marks alone, by the library,
+// took 2 percent more instructions of the whole check.
 fn padded(pool: &[u8], leaf: usize) -> [u8; Record::BLOCK_SIZE]
     requires { (leaf < shares pool.now) × (entries pool.now leaf ≤ most_leaf) }
     ensures { Padded (leaf_marks pool.now leaf) result }
@@ -107,7 +109,7 @@ fn claim_holds(marks: &[u8], c: usize, told: usize, alphabet: u8) -> bool
         || c < usize::from(alphabet) && told == count_in(marks, 0, Record::BLOCK_SIZE, c as u8)
 }
 
-// A branch, by adding up its entries.
+// A branch, by adding up its entries. No way out of the loop, so that the compiler compares several symbols at once.
 fn branch_repeats(pool: &[u8], b: usize, k: usize, child: usize) -> bool
     requires parent { (b < shares pool.now) × (k < most_branch) }
     requires child { (child < shares pool.now) × (least_branch ≤ entries pool.now child)
@@ -121,9 +123,7 @@ fn branch_repeats(pool: &[u8], b: usize, k: usize, child: usize) -> bool
     for c in 0..Record::MOST_ALPHABET {
         let told = count_below(pool, b, k, c);
         let own = branch_count(pool, child, many, c);
-        if told != own {
-            same = false;
-        }
+        same &= told == own;
     }
     same
 }
