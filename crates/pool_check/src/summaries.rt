@@ -117,13 +117,9 @@ fn branch_repeats(pool: &[u8], b: usize, k: usize, child: usize) -> bool
     ensures { Says result (Repeats pool.now 1 b k child) }
 {
     let many = entry_count(pool, child);
-    let all_told = marks_below(pool, b, k);
-    let all_own = own_marks(pool, 1, child);
-    let mut same = all_told == all_own;
+    let mut same = marks_below(pool, b, k) == own_marks(pool, 1, child);
     for c in 0..Record::MOST_ALPHABET {
-        let told = count_below(pool, b, k, c);
-        let own = branch_count(pool, child, many, c);
-        same &= told == own;
+        same &= count_below(pool, b, k, c) == branch_count(pool, child, many, c);
     }
     same
 }
