@@ -14,9 +14,7 @@ pub fn all_zero(pool: &[u8], at: usize, many: usize) -> bool
 {
     let mut clean = true;
     for byte in &pool[at..at + many] {
-        if *byte != 0 {
-            clean = false;
-        }
+        clean &= *byte == 0;
     }
     clean
 }

@@ -52,7 +52,7 @@ impl Tree<'_> {
         let marks = padded(&leaf);
         let mut left = many;
         let mut c = 0;
-        // A `for` over the symbols that ends where nothing is left makes the whole check slower by 8 percent: 4,870 ns, and not 4,460.
+        // A `for` over the symbols, left where nothing is left, makes the whole check slower by 12 percent: 4,890 ns and not 4,350.
         while left > 0 {
             let told = parent.count_below(k, c);
             if !claim_holds(&marks, c, told, self.alphabet) {
@@ -78,7 +78,8 @@ fn all_claimed(parent: &Block, k: usize) -> usize
 }
 
 // A leaf's marks, filled up to a block's length with a number that is no symbol. A count over them has no remainder that the compiler would
-// count one by one. The leaf's size and the place are bytes, so that sixteen are filled at once.
+// count one by one. The leaf's size and the place are bytes, so that sixteen are filled at once; a copy of the marks alone, by the library,
+// took 2 percent more instructions of the whole check.
 fn padded(leaf: &Block) -> [u8; Record::BLOCK_SIZE]
     requires { entries leaf.now.pool.now leaf.now.b ≤ most_leaf }
     ensures { Padded (leaf_marks leaf.now.pool.now leaf.now.b) result }
@@ -118,9 +119,7 @@ fn branch_repeats(pool: &[u8], b: usize, k: usize, child: usize) -> bool
     let child = Block { pool, b: child };
     let mut same = parent.marks_below(k) == child.own_marks(1);
     for c in 0..Record::MOST_ALPHABET {
-        if parent.count_below(k, c) != child.own_count(1, c) {
-            same = false;
-        }
+        same &= parent.count_below(k, c) == child.own_count(1, c);
     }
     same
 }
