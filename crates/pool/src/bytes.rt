@@ -37,7 +37,9 @@ pub(crate) fn put_u16(pool: &mut [u8], at: usize, value: u16)
     requires { at + word_size ≤ length pool.old }
     ensures { PutWord at value pool.old pool.new }
 {
-    pool[at..at + Record::WORD_SIZE].copy_from_slice(&value.to_le_bytes());
+    let [low, high] = value.to_le_bytes();
+    pool[at] = low;
+    pool[at + 1] = high;
 }
 
 // The same, from a number to reckon with.
@@ -49,6 +51,7 @@ pub fn put_word(pool: &mut [u8], at: usize, value: usize)
 }
 
 // Moves bytes, at most a block's, to where they may overlap the bytes that they were.
+// No copy_within: that picks its direction by itself, and must-fail/move_turned, which turns it here, would have nothing to turn.
 pub fn move_bytes(pool: &mut [u8], from: usize, to: usize, many: usize)
     requires { (from + many ≤ length pool.old) × (to + many ≤ length pool.old) × (many ≤ block_size) }
     ensures { Moved from to many pool.old pool.new }
@@ -70,7 +73,8 @@ fn move_down(pool: &mut [u8], from: usize, to: usize, many: usize)
     }
 }
 
-// Moves bytes towards the back. They are set aside first, since copy_within goes back byte by byte (D41).
+// Moves bytes towards the back. They are set aside first.
+// No copy_within: it goes back byte by byte, with which an insert took 1.28 to 1.52 of the twin's time, and 1.17 like this (D41).
 fn move_up(pool: &mut [u8], from: usize, to: usize, many: usize)
     requires { (from + many ≤ length pool.old) × (to + many ≤ length pool.old) × (many ≤ block_size) }
     ensures { Moved from to many pool.old pool.new }

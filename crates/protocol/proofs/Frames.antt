@@ -1,12 +1,13 @@
 -- Frames and their eight bytes: reading gives back what was written and writing what was read.
 use mathlib.Core.Path.{◌≡◌, refl, sym, ap, ◌∙◌}
 use mathlib.Core.List.{List, [], ◌∷◌}
-use Prim.Native.Nat.{ℕ, zero, suc, ◌/◌, ◌%◌, ◌^◌, ◌<◌}
+use Prim.Native.Nat.{ℕ, zero, suc, ◌+◌, ◌≤◌, ◌/◌, ◌%◌, ◌^◌, ◌<◌}
 use native.Mathlib.Nat.{div-add-mod'}
+use native.Mathlib.Numerals.{add-one, add-two, add-three, add-four, add_five, add_six, add_seven}
 use native.Mathlib.Omega.{arith}
 use lib.Dec.{lit<}
-use lib.ListN.{length, get_or, drop, drop_of_length-le}
-use lib.Seq.{drop-cons}
+use lib.ListN.{set, length, get_or, drop, drop_of_length-le}
+use lib.Seq.{drop-cons, sets-eq, paste}
 use Rattle.geometry.specs.Limits.{frame_size}
 use Rattle.protocol.specs.Frames.{number_of, command_of, bytes_of_command, bytes_of_answer, Fitting}
 use Rattle.lists.specs.Items.{AllBelow}
@@ -73,3 +74,11 @@ bytes-of-command bytes long below =
     let third : number_of a b c d / 256 % 256 ≡ c = omega (arith, small 4, small 5, small 6, small 7) in
     let last : number_of a b c d % 256 ≡ d = omega (arith, small 4, small 5, small 6, small 7) in
     rw (first, second, third, last) (sym (eight bytes long))
+
+-- what the code puts, byte after byte, is the eight bytes from `at` on
+pub eight-put : (out : List ℕ) (at a b c d e f g h : ℕ) → at + frame_size ≤ length out
+    → set (set (set (set (set (set (set (set out at a) (at + 1) b) (at + 2) c) (at + 3) d) (at + 4) e) (at + 5) f) (at + 6) g) (at + 7) h
+    ≡ paste out at (a ∷ b ∷ c ∷ d ∷ e ∷ f ∷ g ∷ h ∷ []) frame_size
+eight-put out at a b c d e f g h room =
+    rw (add-one at, add-two at, add-three at, add-four at, add_five at, add_six at, add_seven at)
+    (sets-eq (a ∷ b ∷ c ∷ d ∷ e ∷ f ∷ g ∷ h ∷ []) out at room)

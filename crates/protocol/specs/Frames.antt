@@ -54,11 +54,6 @@ command_of bytes = command_in (frame_of_bytes bytes)
 unfoldable pub answer_of_bytes : List ℕ → Answer
 answer_of_bytes bytes = answer_in (frame_of_bytes bytes)
 
--- four bytes and the four bytes of a number
-abbrev pub eight_bytes : ℕ → ℕ → ℕ → ℕ → ℕ → List ℕ
-eight_bytes first second third fourth number =
-    bytes_of_frame (record { first = first; second = second; third = third; fourth = fourth; number = number })
-
 -- the eight bytes of a command
 unfoldable pub bytes_of_command : Command → List ℕ
 bytes_of_command c = bytes_of_frame (frame_of_command c)
