@@ -47,6 +47,7 @@ impl Block<'_> {
     {
         let first = self.entry_word(0, offset);
         let both = first + self.entry_word(1, offset);
+        // plain ifs, of which the compiler makes conditional moves: with a match, or with else, rank took 1.4 times as long
         if k > 2 {
             return both + self.entry_word(2, offset);
         }
