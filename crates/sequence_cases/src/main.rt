@@ -2,8 +2,6 @@
 // over three symbols, and on a list that is longer than two counting pieces.
 #![tactic(auto)]
 
-ghost use Rattle.std.specs.Prelude.{◌≤◌};
-
 use sequence::{count_in, find};
 use std::{array, io};
 
@@ -43,16 +41,14 @@ fn answers_agree(marks: &[u8], starts: usize) -> bool {
 }
 
 // The list of `len` marks whose digits to base 3 make `code`.
-fn small_list_agrees(len: usize, code: usize) -> bool
-    requires { len ≤ 6 }
-{
+fn small_list_agrees(len: usize, code: usize) -> bool {
     let mut marks = [0; 6];
     let mut left = code;
     for mark in &mut marks {
         *mark = (left % 3) as u8;
         left /= 3;
     }
-    answers_agree(&marks[..len], 7)
+    len <= 6 && answers_agree(&marks[..len], 7)
 }
 
 // Every list of at most six marks.
