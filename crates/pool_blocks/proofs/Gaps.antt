@@ -15,11 +15,10 @@ use Rattle.pool.specs.Words.{PutWord, Moved}
 use Rattle.pool_entries.specs.Summaries.{Is}
 use Rattle.pool_blocks.specs.Contents.{contents, Room}
 use Rattle.pool_blocks.specs.Moves.{Opened, Closed}
-use Rattle.pool_blocks.proofs.EntryMoves.{moved_as}
 use Rattle.pool.specs.Words.{PutWord, Moved}
 use Rattle.pool.proofs.Changes.{only-block, only_then, word-behind, cut-before, cut-behind}
 use Rattle.pool.proofs.Moves.{cut_moved}
-use Rattle.pool_blocks.proofs.Contents.{Measured, measured, contents-is}
+use Rattle.pool_blocks.proofs.Contents.{Measured, measured, contents-is, moved_as}
 
 -- a move within a block's entries, and then another count
 module _ (b from to bytes put : ℕ) (p q r : List ℕ) (low : block_at b ≤ to) (high : to + bytes ≤ block_at b + form_at)

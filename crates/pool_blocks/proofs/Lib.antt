@@ -1,5 +1,4 @@
 pub mod Contents
-pub mod EntryMoves
 pub mod Gaps
 pub mod Parts
 pub mod Shares

@@ -7,39 +7,20 @@ use native.Mathlib.Nat.{mul-sub}
 use native.Mathlib.Omega.{arith}
 use lib.ListN.{take, drop}
 use lib.Seq.{take-take}
-use Rattle.geometry.specs.Layout.{form_at, count_at, form_marks}
-use Rattle.geometry.specs.Limits.{block_size}
+use Rattle.geometry.specs.Layout.{form_at, count_at}
 use Rattle.lists.proofs.Cuts.{cut-two, drop-stretch}
 use Rattle.pool.specs.Blocks.{entries}
 use Rattle.pool.specs.Bytes.{shares, block_at}
 use Rattle.pool.specs.Changes.{Only}
-use Rattle.pool.specs.Words.{PutByte, PutWord, Moved}
+use Rattle.pool.specs.Words.{PutWord, Moved}
 use Rattle.pool_entries.specs.Summaries.{Is}
 use Rattle.pool_blocks.specs.Contents.{contents, Room, Apart}
-use Rattle.pool_blocks.specs.Moves.{PutTrailer, Emptied, CutOff, Joined}
-use Rattle.pool_blocks.proofs.EntryMoves.{moved_as}
-use Rattle.pool.specs.Words.{PutByte, PutWord, Moved}
-use Rattle.pool.proofs.Changes.{outside-then, outside_wider, only-block, only_then, only_wider, word-other, cut-before}
+use Rattle.pool_blocks.specs.Moves.{PutTrailer, CutOff, Joined}
+use Rattle.pool.specs.Words.{PutWord, Moved}
+use Rattle.pool.proofs.Changes.{only-block, only_then, only_wider, word-other, cut-before}
 use Rattle.pool.proofs.Moves.{cut_moved}
 use Rattle.pool_blocks.proofs.Gaps.{moved-only, moved-form}
-use Rattle.pool_blocks.proofs.Contents.{Measured, measured, contents-is, start-other}
-
--- form and count make a trailer
-pub trailer-put : (b at many : ℕ) (p q r : List ℕ) → at ≡ block_at b → PutByte (at + form_at) form_marks p q
-    → PutWord (block_at b + count_at) many q r
-    → PutTrailer b many p r
-trailer-put b at many p q r place form count =
-    record {
-      same =
-          outside-then (outside_wider (block_at b + form_at) (block_size - form_at) (omega arith) (omega arith) form.same)
-          (outside_wider (block_at b + form_at) (block_size - form_at) (omega arith) (omega arith) count.same);
-      form = count.same.low (block_at b + form_at) (omega arith) ∙ rw place at form.put;
-      many = count.put;
-    }
-
--- a trailer that says none
-pub emptied : (b : ℕ) (p q : List ℕ) → PutTrailer b 0 p q → Emptied b p q
-emptied b p q put = record { only = only-block put.same b (omega arith) (omega arith); form = put.form; many = put.many }
+use Rattle.pool_blocks.proofs.Contents.{Measured, measured, contents-is, start-other, moved_as}
 
 -- a block's entries behind the first so many, moved to another block
 pub part_cut : (unit b new cut many : ℕ) (p p₁ p₂ p₃ : List ℕ)

@@ -65,9 +65,6 @@ module _ (p : List ℕ) (b at : ℕ) (leaf : LeafAt p b) (place : at ≡ block_a
     pub met-more : k < length (block_bytes p at) → met + 1 < byte_limit
     met-more more = omega (arith, met-few p at c i k, whole-block)
 
-    pub met-wide : k ≤ block_size → met < address_limit
-    met-wide most = omega (arith, met-few p at c i k)
-
     -- one place more: places past the i-th have no more left than stand behind it
     module _ (left met' : ℕ) (rest : left ≡ block_size - k) (more : k < length (block_bytes p at)) where
       low : k < block_size

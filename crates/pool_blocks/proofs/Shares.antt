@@ -16,13 +16,12 @@ use Rattle.pool.specs.Words.{PutWord, Moved}
 use Rattle.pool_entries.specs.Summaries.{Is}
 use Rattle.pool_blocks.specs.Contents.{contents, Room, Apart, Counted}
 use Rattle.pool_blocks.specs.Moves.{Refilled, Recut, SharedOut}
-use Rattle.pool_blocks.proofs.EntryMoves.{moved_as, room-between}
 use Rattle.pool.specs.Words.{PutWord, Moved}
 use Rattle.pool.proofs.Changes.{only-block, only_then, only_wider, word-other, cut-before, cut-behind}
 use Rattle.pool.proofs.Moves.{cut_moved}
 use Rattle.pool_blocks.specs.Contents.{contents, Room, Counted}
 use Rattle.pool_blocks.specs.Moves.{Recut, SharedOut}
-use Rattle.pool_blocks.proofs.Contents.{contents-is, start-other, stretch-other}
+use Rattle.pool_blocks.proofs.Contents.{contents-is, start-other, stretch-other, room-between, moved_as}
 
 -- the entries of two blocks in a row
 module _ (p : List ℕ) (a l a' r : ℕ) (inside : a + l ≤ length p) (inside' : a' + r ≤ length p) where
@@ -109,7 +108,7 @@ module _ (unit left right here there many : ℕ) (p p₁ p₂ : List ℕ) (count
       let kept : unit * (there - (many - here)) ≡ r - n = mul-sub unit there (many - here) in
       let same : there - (many - here) ≡ here + there - many = omega arith in
       let rest : r - n ≡ unit * (here + there - many) = sym kept ∙ ap (λ (x : ℕ). unit * x) same in
-      let fits : l + n ≤ form_at = omega (arith, (room-between p unit left right here there many counted room room' least most many most).fits) in
+      let fits : l + n ≤ form_at = omega (arith, (room-between p unit left right here there many counted room room' most).fits) in
       let m : Moved a' (a + l) n p p₁ = moved_as (omega arith) refl refl part in
       let m' : Moved (a' + n) a' (r - n) p₁ p₂ = moved_as refl (omega arith) kept part' in
       let first : Only (λ x. x ≡ left) p p₁ = only-block m.same left (omega arith) (omega arith) in
@@ -142,7 +141,7 @@ module _ (unit left right here there many : ℕ) (p p₁ p₂ : List ℕ) (count
       let same : here - many + there ≡ here + there - many = omega arith in
       let rest : l - n + r ≡ unit * (here + there - many) = omega (arith, part-is, ap (λ (x : ℕ). unit * x) same) in
       let fits : l - n + r ≤ form_at =
-      omega (arith, rest, (room-between p unit left right here there many counted room room' least most (here + there - many) (omega arith)).fits)
+      omega (arith, rest, (room-between p unit left right here there (here + there - many) counted room room' (omega arith)).fits)
       in
       let m : Moved a' (a' + (l - n)) r p p₁ = moved_as (omega arith) (omega arith) refl part in
       let m' : Moved (a + n) a' (l - n) p₁ p₂ = moved_as refl (omega arith) part-is part' in
@@ -177,9 +176,7 @@ shared-out unit left right here there p p₂ p₃ p₄ two room room' is is' ful
     let apart : left ≡ right → ⊥ = two.apart in
     let apart' : right ≡ left → ⊥ = λ (e : right ≡ left). apart (sym e) in
     let counted : Counted p left right here there = record { blocks = two; left_many = is.is; right_many = is'.is } in
-    let room_of : (n : ℕ) → n ≤ max here there → Room unit n =
-    room-between p unit left right here there half counted room room' (omega arith) (omega arith)
-    in
+    let room_of : (n : ℕ) → n ≤ max here there → Room unit n = λ n less. room-between p unit left right here there n counted room room' less in
     let fits : unit * half ≤ form_at = (room_of half (omega arith)).fits in
     let fits' : unit * rest ≤ form_at = (room_of rest (omega arith)).fits in
     let left_told : Only (λ x. x ≡ left) p₂ p₃ = only-block w.same left (omega arith) (omega arith) in

@@ -4,7 +4,6 @@ use mathlib.Core.List.{List}
 use Prim.Native.Nat.{ℕ, ◌-◌, ◌≤◌}
 use native.Mathlib.Omega.{arith}
 use lib.ListN.{length}
-use Rattle.geometry.specs.Layout.{least_branch}
 use Rattle.geometry.specs.Limits.{most_alphabet}
 use Rattle.sequence.proofs.Edits.{all_below-delete}
 use Rattle.shape.specs.Trees.{delete_node}
@@ -48,9 +47,6 @@ module _ (p m : List ℕ) (level b i : ℕ) (leaf : level ≡ 0) where
 
 -- A branch.
 module _ (p m : List ℕ) (level b i : ℕ) (branch : level ≡ 0 → ⊥) where
-  pub branch-least : DeleteReady p m level b i → least_branch ≤ entries p b
-  branch-least = at-branch (λ l d. DeleteReady p m l b i → least_branch ≤ entries p b) level branch (λ h ready. ready.block.enough)
-
   module _ (s : Seat) (seated : Seated (marks_below p b) (entries p b) i s) where
     module _ (child : ℕ) (at : Is (link p b s.k) child) where
       pub below-ready : DeleteReady p m level b i → DeleteReady p m (level - 1) child (i - s.before)

@@ -219,9 +219,6 @@ node-room zero many few = record { few = omega (arith, few); fits = omega (arith
 node-room (suc h) many few = record { few = omega (arith, few); fits = omega (arith, few) }
 
 module _ (p : List ℕ) (left right level : ℕ) (two : TwoNodes p level left right) where
-  pub nodes-fit : entries p left + entries p right ≤ most one_to_a_byte level → Room (unit_of level) (entries p left + entries p right)
-  nodes-fit fit = node-room level _ fit
-
   pub nodes-apart : Apart p left right
   nodes-apart = record { left_inside = two.first.0.inside; right_inside = two.second.0.inside; apart = nodes-other p level left right two }
 

@@ -18,7 +18,7 @@ use Rattle.shape.proofs.Instances.{one_to_a_byte-proper}
 use Rattle.shape.specs.Level.{mend}
 use Rattle.shape.specs.Nested.{marks_in}
 use Rattle.shape.specs.Sizes.{one_to_a_byte, least, most}
-use Rattle.pool.specs.Blocks.{entries, link, marks_below, count_below, children}
+use Rattle.pool.specs.Blocks.{entries, link, children}
 use Rattle.pool.specs.Changes.{Only}
 use Rattle.pool.specs.Trees.{shape_at, blocks_at}
 use Rattle.pool.proofs.Changes.{only_then, only_wider}
@@ -37,14 +37,8 @@ module _ (p m : List ℕ) (h b k c : ℕ) (ready : SettleReady p m h b k c) wher
   two : 2 ≤ least one_to_a_byte h
   two = least-two one_to_a_byte one_to_a_byte-proper h
 
-  pub inside-branch : k < most_branch
+  inside-branch : k < most_branch
   inside-branch = omega (arith, ready.place, ready.block.fits)
-
-  pub marks-there : 0 < marks_below p b k
-  marks-there = omega (arith, ready.marks)
-
-  pub count-there : 0 < count_below p b k c
-  count-there = omega (arith, ready.counts c ready.symbol, is_mark-same c c refl)
 
   -- the branch is in no child's tree
   apart : (j : ℕ) → j < entries p b → (y : ℕ) → 1 ≤ count y (blocks_at p h (link p b j)) → y ≡ b → ⊥

@@ -1,6 +1,6 @@
 use native.Mathlib.Omega.{arith}
 use Rattle.pool_blocks.proofs.Leaves.{place-few, place-small}
-use Rattle.pool_blocks.proofs.Scans.{met-none, met-more, met-wide, met-past, met-same, met-other, met_all}
+use Rattle.pool_blocks.proofs.Scans.{met-none, met-more, met-past, met-same, met-other, met_all}
 use Rattle.pool_blocks.proofs.leaf.count_marks.Goals as goal
 use Rattle.pool_blocks.proofs.leaf.count_marks.Goals.{then-mark-c+then-left-behind, else-mark-c, else-mark-c-via-then-mark-c+else-left-behind, else-mark-c-via-else-mark-c}
 
@@ -25,9 +25,6 @@ loop-mark-preserved c = (
     | else-mark-c w ↦ elim w.else-mark-c.branch [ else-mark-c-via-then-mark-c+else-left-behind v ↦ search met-past | else-mark-c-via-else-mark-c v ↦ search met-other ]
   ],
 )
-
-pub overflow_cast-result : goal.overflow_cast-result
-overflow_cast-result c = record { fits = search met-wide }
 
 pub returns : goal.returns
 returns c = search met_all

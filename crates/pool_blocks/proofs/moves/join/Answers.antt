@@ -1,10 +1,6 @@
 -- `pool_blocks::moves::join` meets its contract: one move and the new count.
-use Rattle.pool_blocks.proofs.EntryMoves.{parts_join}
 use Rattle.pool_blocks.proofs.Parts.{parts-joined}
 use Rattle.pool_blocks.proofs.moves.join.Goals as goal
-
-pub move_entries-requires : goal.move_entries-requires
-move_entries-requires c = search parts_join
 
 pub returns : goal.returns
 returns c = search parts-joined

@@ -1,8 +1,8 @@
 use Rattle.std.proofs.Common.{rules}
 use Rattle.pool_entries.proofs.Levels.{level-falls}
-use Rattle.pool_entries.proofs.Seats.{seated-before, seated-low}
-use Rattle.tree_splits.proofs.SoundBlocks.{leaf-at, branch-most}
-use Rattle.tree_delete.proofs.LevelDeletes.{leaf-deleted, below-ready, taken-below, branch-deleted, leaf_last, branch-least}
+use Rattle.pool_entries.proofs.Seats.{seated-before}
+use Rattle.tree_splits.proofs.SoundBlocks.{leaf-at}
+use Rattle.tree_delete.proofs.LevelDeletes.{leaf-deleted, below-ready, taken-below, branch-deleted, leaf_last}
 use Rattle.tree_delete.proofs.deletes.+delete_in.Goals as goal
 
 pub delete_mark-requires : goal.delete_mark-requires
@@ -10,12 +10,6 @@ delete_mark-requires t c = (search leaf-at, search rules, search leaf_last)
 
 pub returns-then-level-eq0 : goal.returns-then-level-eq0
 returns-then-level-eq0 t c = search leaf-deleted
-
-pub seat_by-seat-requires : goal.seat_by-seat-requires
-seat_by-seat-requires t c = record { inside = search rules; branch = (search branch-least, search branch-most) }
-
-pub link-child-requires : goal.link-child-requires
-link-child-requires t c = search (seated-low, branch-most)
 
 pub overflow_sub-i : goal.overflow_sub-i
 overflow_sub-i t c = search seated-before

@@ -3,8 +3,8 @@ use Rattle.tree_delete.proofs.PairWrites.{two-nodes, remove-ready, join-returns,
 use borrow.Author.Rules.{rules}
 use Rattle.tree_delete.proofs.pairs.join_pair.Goals as goal
 
-pub join_nodes-requires : goal.join_nodes-requires
-join_nodes-requires c = record { two = search two-nodes; fit = search rules }
+pub join_nodes-requires-clause-two : goal.join_nodes-requires-clause-two
+join_nodes-requires-clause-two c = search two-nodes
 
 pub summary-summary-requires : goal.summary-summary-requires
 summary-summary-requires c = (search rules, search joined_small)

@@ -3,8 +3,8 @@ use Rattle.tree_delete.proofs.PairWrites.{two-nodes, share-returns, first_small,
 use borrow.Author.Rules.{rules}
 use Rattle.tree_delete.proofs.pairs.share_pair.Goals as goal
 
-pub share_nodes-requires : goal.share_nodes-requires
-share_nodes-requires c = record { two = search two-nodes; many = search rules }
+pub share_nodes-requires-clause-two : goal.share_nodes-requires-clause-two
+share_nodes-requires-clause-two c = search two-nodes
 
 pub summary-first-requires : goal.summary-first-requires
 summary-first-requires c = (search rules, search first_small)
