@@ -42,7 +42,7 @@ impl Filter for Session {
 }
 
 // Answers the lines of an input, to its end.
-fn run<R: Read, W: Write>(input: &mut R, output: &mut W) -> Result<(), Failure>
+fn answer_lines<R: Read, W: Write>(input: &mut R, output: &mut W) -> Result<(), Failure>
     ensures { OnOk result (WritesAll session_of (R.remaining input.old) (W.contents output.old) (W.contents output.new)) }
 {
     let mut session = Session {
@@ -55,7 +55,8 @@ fn run<R: Read, W: Write>(input: &mut R, output: &mut W) -> Result<(), Failure>
 }
 
 fn main(rt: HostRuntime) -> ExitCode {
-    exit_code(&rt, "answers", run(&mut rt.stdin(), &mut rt.stdout()))
+    let outcome = answer_lines(&mut rt.stdin(), &mut rt.stdout());
+    exit_code(&rt, "answers", outcome)
 }
 
 // bytes of one read: its frames are fewer than one call of the index takes

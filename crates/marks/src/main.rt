@@ -16,13 +16,13 @@ use std::process::ExitCode;
 
 // A Fortran file that is being read.
 #[derive(Drop)]
-struct File {
+struct FortranFile {
     progress: Progress,
     // the first columns of its unfinished line
     keep: [u8; Record::LAST_COLUMN],
 }
 
-impl Filter for File {
+impl Filter for FortranFile {
     ghost room = { line_size };
 
     ghost follows = { λ input written file. FileFollows input written file.progress file.keep [] 0 };
@@ -39,10 +39,10 @@ impl Filter for File {
 }
 
 // Writes the frames of a file, to its end.
-fn run<R: Read, W: Write>(input: &mut R, output: &mut W) -> Result<(), Failure>
+fn write_frames<R: Read, W: Write>(input: &mut R, output: &mut W) -> Result<(), Failure>
     ensures { OnOk result (WritesAll frames_of_file (R.remaining input.old) (W.contents output.old) (W.contents output.new)) }
 {
-    let mut file = File {
+    let mut file = FortranFile {
         progress: Progress::start(),
         keep: [0; Record::LAST_COLUMN],
     };
@@ -50,7 +50,8 @@ fn run<R: Read, W: Write>(input: &mut R, output: &mut W) -> Result<(), Failure>
 }
 
 fn main(rt: HostRuntime) -> ExitCode {
-    exit_code(&rt, "marks", run(&mut rt.stdin(), &mut rt.stdout()))
+    let outcome = write_frames(&mut rt.stdin(), &mut rt.stdout());
+    exit_code(&rt, "marks", outcome)
 }
 
 // bytes that are read at once, and bytes of frames that are written at once

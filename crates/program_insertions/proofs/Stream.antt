@@ -1,4 +1,5 @@
--- What each step leaves of `FileFollows`. A line that ends brings its frame, by the laws on one line more; bytes that end none are gathered.
+-- What each step leaves of `FileFollows`. A line that ends brings its frame, by the laws on one line more; bytes that end none are
+-- gathered. A step's frames stand at the front of what was left of the output, behind those of the steps before.
 use mathlib.Core.Bool.{Bool, true, false}
 use mathlib.Core.Path.{◌≡◌, refl, sym, ap, ap₂, ◌∙◌}
 use mathlib.Core.List.{List, [], ◌∷◌, ◌++◌, append-nil, append_assoc}
@@ -40,15 +41,18 @@ frames-with lines line earlier out out' many filled result s keep holds columns 
     ∙ append_assoc earlier (take filled out) (frame_after (length lines) line)
     ∙ ap (λ l. earlier ++ l)
     (ap (λ l. take filled out ++ l)
-    (sym (frame-after-limit (length lines) line) ∙ ap (λ k. frame_after k line) (sym is) ∙ sym (frame-of-line-held many line s keep holds columns))
+    (sym (frame-after-limit (length lines) line)
+    ∙ ap (λ k. frame_after k line) (sym is)
+    ∙ sym (frame-of-line-held many line s keep holds columns))
     ∙ sym put.frame)
 
 module _ (bytes : List ℕ) (before : Progress) (keep keep' out out' : List ℕ) (filled : ℕ) where
   -- a line has ended: its frame has been put
   module _ (taken : ℕ) (line : Gathered) (gathers : Gathers true bytes before.line keep keep' (Whole taken line)) where
-    pub line_taken : (start : Gathered) (front : List ℕ) (result lines : ℕ) → ((returns : Bool) (kept : List ℕ) → Stands returns [] start kept)
-        → front ≡ take line.kept keep' → PutsFrame front before.lines out out' filled result → lines ≡ min most_marks (before.lines + 1)
-        → GoesOn bytes before (record { line = start; lines = lines }) keep keep' out out' filled (record { taken = taken; filled = result })
+    pub line_taken : (start : Gathered) (front : List ℕ) (result lines : ℕ)
+        → ((returns : Bool) (kept : List ℕ) → Stands returns [] start kept) → front ≡ take line.kept keep' → PutsFrame front before.lines out out' filled result → lines ≡ min most_marks (before.lines + 1)
+        → GoesOn bytes before (record { line = start; lines = lines }) keep keep' out out' filled
+        (record { taken = taken; filled = result })
     line_taken start front result lines file-starts is_front put is =
         record {
           takes = record {
@@ -75,12 +79,14 @@ module _ (bytes : List ℕ) (before : Progress) (keep keep' out out' : List ℕ)
               room = put.room;
               frames =
                   ap frames_of_lines more
-                  ∙ frames-with (ended true [] input) text earlier out out' before.lines filled result line keep' held columns f.lines f.frames (rw is_front at put);
+                  ∙ frames-with (ended true [] input) text earlier out out' before.lines filled result line keep' held columns f.lines f.frames
+                  (rw is_front at put);
             }
 
   -- no line has ended
   module _ (line : Gathered) (gathers : Gathers true bytes before.line keep keep' (Unfinished line)) where
-    pub none-taken : GoesOn bytes before (record { line = line; lines = before.lines }) keep keep' out out filled (record { taken = length bytes; filled = filled })
+    pub none-taken : GoesOn bytes before (record { line = line; lines = before.lines }) keep keep' out out filled
+        (record { taken = length bytes; filled = filled })
     none-taken =
         record {
           takes = record {
@@ -97,15 +103,20 @@ module _ (bytes : List ℕ) (before : Progress) (keep keep' out out' : List ℕ)
             → FileFollows (input ++ take (length bytes) bytes) earlier (record { line = line; lines = before.lines }) keep' out filled
         follows input earlier f =
             record {
-              line = rw (more_left true bytes before.line keep keep' (Unfinished line) gathers [] input refl) (gathers.stands (left [] input) f.line);
+              line =
+                  rw (more_left true bytes before.line keep keep' (Unfinished line) gathers [] input refl)
+                  (gathers.stands (left [] input) f.line);
               columns = omega (arith, gathers.same, f.columns);
               lines = rw (no-line-more true bytes before.line keep keep' (Unfinished line) gathers [] input refl) f.lines;
               room = f.room;
-              frames = ap frames_of_lines (no-line-more true bytes before.line keep keep' (Unfinished line) gathers [] input refl) ∙ f.frames;
+              frames =
+                  ap frames_of_lines (no-line-more true bytes before.line keep keep' (Unfinished line) gathers [] input refl)
+                  ∙ f.frames;
             }
 
 -- nothing has been read
-pub file-starts : (line : Gathered) → ((returns : Bool) (keep : List ℕ) → Stands returns [] line keep) → FileStarts (record { line = line; lines = 0 })
+pub file-starts : (line : Gathered) → ((returns : Bool) (keep : List ℕ) → Stands returns [] line keep)
+    → FileStarts (record { line = line; lines = 0 })
 unfolding frames_of_lines frames_from ended left
 file-starts line stands =
     record {
@@ -162,9 +173,11 @@ module _ (chunk rest : List ℕ) (before between : Progress) (keep keep₁ out o
         take-add filled step.filled out₂
         ∙ ap₂ (λ xs ys. xs ++ take step.filled ys) (take_put filled (length out₁ - filled) out₁ room₂ so_far.room)
         (drop_at (take filled out₁) (room₂ ++ post_of filled (length out₁ - filled) out₁) filled (length-take-le filled out₁ so_far.room))
-        ∙ ap (λ ys. take filled out₁ ++ ys) (take-append-le step.filled room₂ (post_of filled (length out₁ - filled) out₁) (part.takes.room (omega arith)))
+        ∙ ap (λ ys. take filled out₁ ++ ys)
+        (take-append-le step.filled room₂ (post_of filled (length out₁ - filled) out₁) (part.takes.room (omega arith)))
 
-    pub taken_more : TakenSoFar chunk (take (length rest - step.taken) (drop step.taken rest)) before after keep keep₂ out out₂ (filled + step.filled)
+    pub taken_more : TakenSoFar chunk (take (length rest - step.taken) (drop step.taken rest)) before after keep keep₂ out out₂
+        (filled + step.filled)
     taken_more =
         let next : FileTakesIn (drop so_far.taken chunk) between after keep₁ keep₂ room₁ room₂ 0 step = rw so_far.left at part.takes in
         let long : length room₁ ≡ length out₁ - filled = cut-length out₁ filled (length out₁ - filled) (omega (arith, so_far.room)) in
@@ -181,7 +194,10 @@ module _ (chunk rest : List ℕ) (before between : Progress) (keep keep₁ out o
             room = λ _. within;
             follows =
                 λ input earlier f.
-                rw (take-add so_far.taken step.taken chunk, ← append_assoc input (take so_far.taken chunk) (take step.taken (drop so_far.taken chunk)))
+                rw (
+                  take-add so_far.taken step.taken chunk,
+                  ← append_assoc input (take so_far.taken chunk) (take step.taken (drop so_far.taken chunk)),
+                )
                 (follows (input ++ take so_far.taken chunk) earlier next within (so_far.takes.follows input earlier f));
           };
           none = λ nothing. absurd (omega (arith, more));
@@ -193,7 +209,13 @@ module _ (chunk rest : List ℕ) (before between : Progress) (keep keep₁ out o
             → FileFollows (input ++ take step.taken (drop so_far.taken chunk)) earlier after keep₂ out₂ (filled + step.filled)
         follows input earlier next within f =
             let old : FileFollows input (earlier ++ take filled out₁) between keep₁ room₁ 0 =
-            record { line = f.line; columns = f.columns; lines = f.lines; room = omega arith; frames = f.frames ∙ sym (append-nil (earlier ++ take filled out₁)) }
+            record {
+              line = f.line;
+              columns = f.columns;
+              lines = f.lines;
+              room = omega arith;
+              frames = f.frames ∙ sym (append-nil (earlier ++ take filled out₁));
+            }
             in
             let new = next.follows input (earlier ++ take filled out₁) old in
             record {
@@ -214,14 +236,17 @@ module _ (chunk rest : List ℕ) (before between : Progress) (keep keep₁ out o
         takes = rw same so_far.takes;
         onward =
             λ room some.
-            rw same (started so_far.taken filled (length rest) (length chunk) (length out₁) so_far.none full behind (omega (arith, so_far.takes.long)) some);
+            let enough : line_size ≤ length out₁ = omega (arith, so_far.takes.long) in
+            rw same (started so_far.taken filled (length rest) (length chunk) (length out₁) so_far.none full behind enough some);
       }
 
   pub chunk-used : (empty : Bool) → empty ≡ (length rest == 0) → empty ≡ true
       → GoesOn chunk before between keep keep₁ out out₁ 0 (record { taken = length chunk - length rest; filled = filled })
-  chunk-used empty is none = taken_all (length chunk - length rest) refl (λ some. absurd (omega (arith, true-eqb (length rest) 0 (sym none ∙ is))))
+  chunk-used empty is none =
+      taken_all (length chunk - length rest) refl (λ some. absurd (omega (arith, true-eqb (length rest) 0 (sym none ∙ is))))
 
-  pub room-used : length out₁ - filled < line_size → GoesOn chunk before between keep keep₁ out out₁ 0 (record { taken = length chunk - length rest; filled = filled })
+  pub room-used : length out₁ - filled < line_size
+      → GoesOn chunk before between keep keep₁ out out₁ 0 (record { taken = length chunk - length rest; filled = filled })
   room-used full = taken_all (length chunk - length rest) refl (λ some. full)
 
 -- the frame of a line below the limit has been written at the front
@@ -235,7 +260,9 @@ frame-put line lines out out' mark frame room below is inserts put =
     record {
       long = same;
       room = omega arith;
-      frame = front-with out out' (line_of frame) 0 line_size line_size refl long room put ∙ rw (lt-ltb lines most_marks below, inserts, is);
+      frame =
+          front-with out out' (line_of frame) 0 line_size line_size refl long room put
+          ∙ rw (lt-ltb lines most_marks below, inserts, is);
     }
 
 -- past the limit nothing is written
@@ -258,8 +285,8 @@ module _ (before : Progress) (keep keep' out out' : List ℕ) (last : Gathered) 
       }
 
   -- a last line has no line feed
-  pub ends_open : (front : List ℕ) (result : ℕ) → (last.length ≡ 0 → ⊥) → front ≡ take last.kept keep' → PutsFrame front before.lines out out' 0 result
-      → FileEnds before keep keep' out out' result
+  pub ends_open : (front : List ℕ) (result : ℕ) → (last.length ≡ 0 → ⊥) → front ≡ take last.kept keep'
+      → PutsFrame front before.lines out out' 0 result → FileEnds before keep keep' out out' result
   unfolding frames_of_file
   ends_open front result some is_front put =
       record {

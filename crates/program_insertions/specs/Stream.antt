@@ -21,7 +21,8 @@ pub record FileStarts (state : Progress) : Type 0 where
   pub follows : (keep out : List ℕ) → last_column ≤ length keep → FileFollows [] [] state keep out 0
 
 -- bytes were taken from the front of a chunk, and the state and the output follow the input with them
-pub record FileTakesIn (chunk : List ℕ) (before after : Progress) (keep keep' out out' : List ℕ) (filled : ℕ) (result : Taken) : Type 0 where
+pub record FileTakesIn (chunk : List ℕ) (before after : Progress) (keep keep' out out' : List ℕ) (filled : ℕ) (result : Taken) :
+    Type 0 where
   pub within : result.taken ≤ length chunk
   pub same : length keep' ≡ length keep
   pub long : length out' ≡ length out

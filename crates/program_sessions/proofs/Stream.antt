@@ -38,18 +38,22 @@ use Rattle.program_sessions.proofs.Session.{state-append, written-append}
 written-with : (input written front : List ℕ) (before : Gathered) (keep p : List ℕ) (more : List (Option Frame)) → SessionFollows input written before keep p
     → front ≡ joined line_of_answer (answers_to_lines (meaning p) more) → written ++ front ≡ written_for (read_from input ++ more)
 written-with input written front before keep p more f is =
-    ap₂ (λ w l. w ++ l) f.lines (is ∙ ap (λ s. joined line_of_answer (answers_to_lines s more)) f.meant) ∙ sym (written-append (read_from input) more)
+    ap₂ (λ w l. w ++ l) f.lines (is ∙ ap (λ s. joined line_of_answer (answers_to_lines s more)) f.meant)
+    ∙ sym (written-append (read_from input) more)
 
 -- a chunk's lines were read into buffers for the commands of one call
 module _ (chunk : List ℕ) (before : Gathered) (keep keep' out out₁ zeros commands : List ℕ) (batch : Batch)
-    (read : BatchRead chunk before keep keep' out out₁ zeros commands batch) (enough : longest_commands ≤ length zeros) (few : length zeros ≤ longest_commands) where
+    (read : BatchRead chunk before keep keep' out out₁ zeros commands batch) (enough : longest_commands ≤ length zeros)
+    (few : length zeros ≤ longest_commands) where
   pub asks-batch : Asks (take (frame_size * batch.frames) commands) out₁ batch.lines
   asks-batch =
       let r = read.reads in
-      asks-lines r.lines commands out₁ batch.lines batch.frames r.many r.drafts r.bytes r.room r.room_for_frames (omega (arith, read.same_commands))
+      asks-lines r.lines commands out₁ batch.lines batch.frames r.many r.drafts r.bytes r.room r.room_for_frames
+      (omega (arith, read.same_commands))
 
   -- and answered
-  pub chunk-taken : (p q out₂ : List ℕ) (filled : ℕ) → filled ≡ line_size * batch.lines → AnswersLines p q (take (frame_size * batch.frames) commands) out₁ out₂ batch.lines
+  pub chunk-taken : (p q out₂ : List ℕ) (filled : ℕ) → filled ≡ line_size * batch.lines
+      → AnswersLines p q (take (frame_size * batch.frames) commands) out₁ out₂ batch.lines
       → SessionTakesIn chunk before batch.line keep keep' p q out out₂ (record { taken = batch.taken; filled = filled })
   chunk-taken p q out₂ filled is done =
       record {
@@ -139,14 +143,16 @@ ends_open before after keep keep' p q out out' taken some takes =
     }
 
 -- the pool is formatted or as it was, and nothing has been read
-pub session-starts : (p q : List ℕ) (status : ℕ) (line : Gathered) → Formats p status q → ((returns : Bool) (keep : List ℕ) → Stands returns [] line keep) → SessionStarts p q line
+pub session-starts : (p q : List ℕ) (status : ℕ) (line : Gathered) → Formats p status q
+    → ((returns : Bool) (keep : List ℕ) → Stands returns [] line keep) → SessionStarts p q line
 unfolding ended left state_after_lines written_for answers_to_lines
 session-starts p q status line formats stands =
     record {
       status = status;
       formats = formats;
       same_pool =
-          ⊎_elim (λ allowed. ap length (formats.allowed allowed).1 ∙ length-formatted (length p) allowed) (λ other. ap length (formats.refused other).1)
+          ⊎_elim (λ allowed. ap length (formats.allowed allowed).1 ∙ length-formatted (length p) allowed)
+          (λ other. ap length (formats.refused other).1)
           (length-cases (length p));
       nothing = stands;
       follows =
@@ -157,7 +163,10 @@ session-starts p q status line formats stands =
             line = stands false keep;
             room = enough;
             sound = rw formatted-now (formatted-sound (length p) allowed);
-            meant = ap meaning formatted-now ∙ formatted-meaning (length p) allowed ∙ ap (λ n. fresh_state {A = Tree} ((n - directory_size) / block_size)) is;
+            meant =
+                ap meaning formatted-now
+                ∙ formatted-meaning (length p) allowed
+                ∙ ap (λ n. fresh_state {A = Tree} ((n - directory_size) / block_size)) is;
             lines = refl;
           };
     }

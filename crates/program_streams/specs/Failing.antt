@@ -9,6 +9,6 @@ told_of Reading = codes "standard input can't be read"
 told_of Writing = codes "standard output can't be written"
 
 -- the exit status: 0, or 1 after a failure
-abbrev pub status_of : Result (Unit {0}) Failure → ℕ
-status_of (Ok done) = 0
-status_of (Err failure) = 1
+abbrev pub exit_status_of : Result (Unit {0}) Failure → ℕ
+exit_status_of (Ok done) = 0
+exit_status_of (Err failure) = 1

@@ -7,7 +7,7 @@ ghost use Rattle.std.specs.Process.{exit_status};
 ghost use Rattle.std.specs.Io.{ReadsAtMost};
 ghost use Rattle.std.specs.Io.KnownBytes.{Appends, ReadConsumes};
 ghost use Rattle.program_streams.specs.Passing.{PassesOn, PassesRest, WritesAll};
-ghost use Rattle.program_streams.specs.Failing.{told_of, status_of};
+ghost use Rattle.program_streams.specs.Failing.{told_of, exit_status_of};
 
 use std::error::Error;
 use std::fmt;
@@ -143,7 +143,7 @@ fn write_out<W: Write>(output: &mut W, bytes: &[u8]) -> Result<(), Failure>
 
 // How a program ends: a failure is told on standard error, under the program's name.
 pub fn exit_code(rt: &impl Eprint, program: &str, outcome: Result<(), Failure>) -> ExitCode
-    ensures { exit_status result ≡ status_of outcome }
+    ensures { exit_status result ≡ exit_status_of outcome }
 {
     match outcome {
         Ok(()) => ExitCode::SUCCESS,

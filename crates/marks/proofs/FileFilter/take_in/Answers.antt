@@ -1,6 +1,0 @@
--- `marks::File::take_in` meets the contract of a filter: the frames that stand in the output count as written.
-use Rattle.marks.proofs.Written.{frames-written}
-use Rattle.marks.proofs.FileFilter.take_in.Goals as goal
-
-pub returns-clause-followed : goal.returns-clause-followed
-returns-clause-followed c = search frames-written
