@@ -28,7 +28,8 @@ impl Record {
     pub const LENGTH_AT: usize = 8;
     // zeros from here to its end
     pub const SPARE_AT: usize = 10;
-    // the kind of a closed name
+    // the kind of a closed name; kinds and forms are bytes and no enum, since a record is read before anything is known of the pool
+    // (`record_of`), and 254 of the bytes that anyone may lend are no kind
     pub const KIND_CLOSED: u8 = 0;
     // the kind of an open name whose marks stand one to a byte
     pub const KIND_MARKS: u8 = 1;

@@ -14,6 +14,7 @@ pub use limits::Limits;
 // What the directory says of one name.
 #[derive(Clone, Copy)]
 pub struct Record {
+    // a byte, whatever it is: layout.rt says why it is no enum
     pub kind: u8,
     pub alphabet: u8,
     pub height: u8,

@@ -16,7 +16,9 @@ mod sums;
 pub use sizes::{least_entries, most_entries};
 pub use stores::{add_mark, set_entry, take_mark};
 
-// A block of a pool that is lent to be read, by its number.
+// A block of a pool that is lent to be read, by its number. Its level is told by whoever comes down to it, as half of the methods ask for
+// none. What writes takes the pool itself: a `&mut` in a struct would have each contract say that the number stays, and edits of two blocks
+// lend the pool once.
 #[derive(Clone, Copy)]
 pub struct Block<'a> {
     pub pool: &'a [u8],

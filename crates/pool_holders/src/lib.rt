@@ -1,4 +1,7 @@
-// The map of the blocks' holders: a byte for each block of the pool, 0 where it is free, else the number that stands for its holder.
+// The map of the blocks' holders: a byte for each block of the pool, 0 where it is free, else the number that stands for its holder. It is
+// no array of options, since `pool_check_archive` hands it to C.
+// Pool, map and holder go from function to function side by side: a struct of two `&mut` slices and a number would have each contract say
+// that the number and both slices' places stay, and hand the map to those that only read.
 #![tactic(auto)]
 
 ghost use Rattle.std.specs.Prelude.{◌≡◌, ◌≤◌, ◌<◌, length};
