@@ -74,7 +74,7 @@ fn move_down(pool: &mut [u8], from: usize, to: usize, many: usize)
 }
 
 // Moves bytes towards the back. They are set aside first.
-// No copy_within: it goes back byte by byte, with which an insert took 1.28 to 1.52 of the twin's time, and 1.17 like this (D41).
+// No copy_within: it goes back byte by byte, and an insert takes up to 1.36 times as long with it (D41).
 fn move_up(pool: &mut [u8], from: usize, to: usize, many: usize)
     requires { (from + many ≤ length pool.old) × (to + many ≤ length pool.old) × (many ≤ block_size) }
     ensures { Moved from to many pool.old pool.new }

@@ -87,7 +87,7 @@ pub fn delete_mark(pool: &mut [u8], b: usize, i: usize) -> u8
 }
 
 // Moves the marks behind the first `cut` to the block `new`.
-// `cut_branch` is its twin: one function over a trait would need laws of lists whose proofs stand in specs/, which is longer.
+// `cut_branch` is its twin: one function over a trait would need laws of lists, whose proofs would have to stand in specs/.
 pub fn cut_leaf(pool: &mut [u8], b: usize, new: usize, cut: usize)
     requires { LeafAt pool.old b × (new < shares pool.old) × (b ≡ new → ⊥)
         × (cut ≤ length (leaf_marks pool.old b)) }
