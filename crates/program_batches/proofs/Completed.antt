@@ -11,11 +11,11 @@ use borrow.Author.Tests.{eq-eqb, ne_eqb}
 use lib.Dec.{eqb}
 use lib.ListN.{length, get_or, take, drop, length-take, length-drop}
 use lib.Seq.{take_all, take_at, drop_at, take-add, drop-drop, get_or-drop, paste}
-use Rattle.std.proofs.Common.{Option, Some, None}
+use Rattle.std.proofs.Common.{Ok, Err}
 use Rattle.geometry.specs.Limits.{frame_size}
 use Rattle.lists.specs.Joins.{joined}
 use Rattle.text_hex.specs.Digits.{digit_of, digits_of}
-use Rattle.text_hex.specs.Lines.{line_of, line_size, digits_of_frame}
+use Rattle.text_hex.specs.Lines.{Reading, line_of, line_size, digits_of_frame}
 use Rattle.text_hex.proofs.Fronts.{front-with, back-with, long-with}
 use Rattle.text_hex.proofs.Written.{length-of-line}
 use Rattle.protocol.specs.Frames.{answer_of_bytes, frame_of_answer, frame_of_bytes}
@@ -41,13 +41,13 @@ unfolding line_of digits_of_frame digits_of digit_of
 bad-keeps-none rest = refl
 
 -- one place for each frame
-pub kept-in-drafts : (rs : List (Option Frame)) (rest : List ℕ) → kept_in (length rs) (joined draft_of rs ++ rest) ≡ length (commands_read rs)
+pub kept-in-drafts : (rs : List Reading) (rest : List ℕ) → kept_in (length rs) (joined draft_of rs ++ rest) ≡ length (commands_read rs)
 unfolding kept_in
 kept-in-drafts [] rest = refl
-kept-in-drafts (Some frame ∷ rs) rest =
+kept-in-drafts (Ok frame ∷ rs) rest =
     rw (append_assoc (line_of zeros) (joined draft_of rs) rest, zeros-keep (joined draft_of rs ++ rest), drop-line zeros (joined draft_of rs ++ rest))
     (omega (arith, kept-in-drafts rs rest))
-kept-in-drafts (None ∷ rs) rest =
+kept-in-drafts (Err bad ∷ rs) rest =
     rw (append_assoc (line_of_answer bad_answer) (joined draft_of rs) rest, bad-keeps-none (joined draft_of rs ++ rest), drop-line (frame_of_answer bad_answer) (joined draft_of rs ++ rest))
     (omega (arith, kept-in-drafts rs rest))
 

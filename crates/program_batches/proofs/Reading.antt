@@ -7,12 +7,12 @@ use Prim.Native.Nat.{ℕ, ◌+◌, ◌-◌, ◌*◌, ◌≤◌, ◌<◌}
 use native.Mathlib.Omega.{arith}
 use lib.ListN.{length, take, drop, length-append, length-take, length-drop}
 use lib.Seq.{take-add, paste}
-use Rattle.std.proofs.Common.{Option, Some, None}
+use Rattle.std.proofs.Common.{Ok}
 use Rattle.geometry.specs.Limits.{frame_size}
 use Rattle.lists.proofs.Cuts.{rest-is}
 use Rattle.lists.proofs.Joins.{joined-append}
 use Rattle.lists.specs.Joins.{joined}
-use Rattle.text_hex.specs.Lines.{frame_of, line_of, line_size}
+use Rattle.text_hex.specs.Lines.{Reading, no_frame, frame_of, line_of, line_size}
 use Rattle.text_hex.proofs.Lines.{frame-of-other-length}
 use Rattle.text_hex.proofs.Fronts.{front-with, long-with}
 use Rattle.text_hex.proofs.Written.{length-of-line}
@@ -37,12 +37,12 @@ frame-of-held line s keep holds enough =
     ∙ frame-of-other-length line (λ is. omega arith))
 
 module _ (line : List ℕ) (lines frames : ℕ) (out out' commands commands' : List ℕ) (room : line_size * (lines + 1) ≤ length out)
-    (room-for-frame : frame_size * (frames + 1) ≤ length commands) (reading : Option Frame) (reads : reading ≡ frame_of line) where
+    (room-for-frame : frame_size * (frames + 1) ≤ length commands) (reading : Reading) (reads : reading ≡ frame_of line) where
   -- a bad line was answered
-  pub bad-put : reading ≡ None → out' ≡ paste out (line_size * lines) (line_of_answer bad_answer) line_size
+  pub bad-put : reading ≡ no_frame → out' ≡ paste out (line_size * lines) (line_of_answer bad_answer) line_size
       → PutsLine line lines frames out out' commands commands frames
   bad-put bad put =
-      let is : frame_of line ≡ None = sym reads ∙ bad in
+      let is : frame_of line ≡ no_frame = sym reads ∙ bad in
       let long : length (line_of_answer bad_answer) ≡ line_size = length-of-line (frame_of_answer bad_answer) in
       record {
         draft = rw is (front-with out out' (line_of_answer bad_answer) (line_size * lines) line_size (line_size * (lines + 1)) (omega arith) long room put);
@@ -54,11 +54,11 @@ module _ (line : List ℕ) (lines frames : ℕ) (out out' commands commands' : L
       }
 
   -- a frame has its place and joined the commands
-  pub frame-put : (frame : Frame) → reading ≡ Some frame → out' ≡ paste out (line_size * lines) (line_of zeros) line_size
+  pub frame-put : (frame : Frame) → reading ≡ Ok frame → out' ≡ paste out (line_size * lines) (line_of zeros) line_size
       → commands' ≡ paste commands (frame_size * frames) (bytes_of_frame frame) frame_size
       → PutsLine line lines frames out out' commands commands' (frames + 1)
   frame-put frame spells put joins =
-      let is : frame_of line ≡ Some frame = sym reads ∙ spells in
+      let is : frame_of line ≡ Ok frame = sym reads ∙ spells in
       let bytes : List ℕ = bytes_of_frame frame in
       let same : length commands' ≡ length commands =
       long-with commands commands' bytes (frame_size * frames) frame_size (frame_size * (frames + 1)) (omega arith) refl room-for-frame joins
@@ -73,7 +73,7 @@ module _ (line : List ℕ) (lines frames : ℕ) (out out' commands commands' : L
       }
 
 -- one line more, joined
-joined-more : (f : Option Frame → List ℕ) (lines : List (List ℕ)) (line : List ℕ)
+joined-more : (f : Reading → List ℕ) (lines : List (List ℕ)) (line : List ℕ)
     → joined f (map frame_of (lines ++ (line ∷ []))) ≡ joined f (map frame_of lines) ++ f (frame_of line)
 joined-more f lines line =
     ap (joined f) (map-append frame_of lines (line ∷ []))

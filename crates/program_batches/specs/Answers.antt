@@ -1,6 +1,6 @@
 -- Answers as lines of digits.
-use Rattle.std.specs.Prelude.{List, ℕ, None, get_or}
-use Rattle.text_hex.specs.Lines.{numbers_of, line_of}
+use Rattle.std.specs.Prelude.{List, ℕ, get_or}
+use Rattle.text_hex.specs.Lines.{no_frame, numbers_of, line_of}
 use Rattle.protocol.specs.Frames.{answer_of_bytes, frame_of_answer}
 use Rattle.protocol.specs.declared.Answer.{Answer}
 
@@ -17,7 +17,7 @@ answer_of_numbers numbers =
 
 -- the answer to a bad line: FF00000000000000
 abbrev pub bad_answer : Answer
-bad_answer = answer_of_numbers (numbers_of None)
+bad_answer = answer_of_numbers (numbers_of no_frame)
 
 -- an answer as a line: sixteen digits and a line feed
 abbrev pub line_of_answer : Answer → List ℕ

@@ -1,9 +1,9 @@
 -- The lines of one call: a bad line is answered at once, a frame joins the commands and a line of zeros keeps its answer's place.
-use Rattle.std.specs.Prelude.{false, cond, ◌≡◌, List, [], ◌++◌, Option, Some, None, map, ℕ, zero, suc, ◌+◌, ◌*◌, ◌≤◌, ◌<◌, eqb, length, get_or, take, drop}
+use Rattle.std.specs.Prelude.{false, cond, ◌≡◌, List, [], ◌++◌, map, ℕ, zero, suc, ◌+◌, ◌*◌, ◌≤◌, ◌<◌, eqb, length, get_or, take, drop, Ok, Err}
 use Rattle.std.proofs.Math.Seq.{paste}
 use Rattle.geometry.specs.Limits.{frame_size}
 use Rattle.lists.specs.Joins.{joined}
-use Rattle.text_hex.specs.Lines.{frame_of, line_of, line_size}
+use Rattle.text_hex.specs.Lines.{Reading, frame_of, line_of, line_size}
 use Rattle.text_lines.specs.Lines.{Stands, ended, left}
 use Rattle.text_lines.specs.declared.Gathered.{Gathered}
 use Rattle.protocol.specs.Frames.{bytes_of_frame}
@@ -16,18 +16,18 @@ abbrev pub zeros : Frame
 zeros = record { first = 0; second = 0; third = 0; fourth = 0; number = 0 }
 
 -- what is written for a line before the call: a line of zeros, or a bad line's answer
-abbrev pub draft_of : Option Frame → List ℕ
-draft_of (Some frame) = line_of zeros
-draft_of None = line_of_answer bad_answer
+abbrev pub draft_of : Reading → List ℕ
+draft_of (Ok frame) = line_of zeros
+draft_of (Err bad) = line_of_answer bad_answer
 
 -- the byte that a line of zeros begins with
 abbrev pub kept_byte : ℕ
 kept_byte = 48
 
 -- the bytes that a line adds to the commands
-abbrev pub bytes_of : Option Frame → List ℕ
-bytes_of (Some frame) = bytes_of_frame frame
-bytes_of None = []
+abbrev pub bytes_of : Reading → List ℕ
+bytes_of (Ok frame) = bytes_of_frame frame
+bytes_of (Err bad) = []
 
 -- a line's draft stands behind those of the lines before it, and its command, if it has one, behind theirs
 pub record PutsLine (line : List ℕ) (lines frames : ℕ) (out out' commands commands' : List ℕ) (result : ℕ) : Type 0 where

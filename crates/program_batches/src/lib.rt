@@ -92,7 +92,7 @@ fn put_line(line: &[u8], out: &mut [u8], lines: usize, commands: &mut [u8], fram
         commands.old commands.new result }
 {
     let at = LINE_SIZE * lines;
-    let Some(frame) = read_line(line) else {
+    let Ok(frame) = read_line(line) else {
         write_line(out, at, BAD_LINE);
         return frames;
     };

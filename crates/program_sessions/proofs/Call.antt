@@ -9,12 +9,11 @@ use native.Mathlib.Decide.{ℕ_discrete}
 use native.Mathlib.Omega.{arith}
 use lib.ListN.{length, take, drop, length-map, take-append-drop}
 use lib.Seq.{length-take-le, take_at, drop_at, take_all}
-use Rattle.std.proofs.Common.{Option, Some, None}
+use Rattle.std.proofs.Common.{Ok, Err}
 use Rattle.geometry.specs.Limits.{frame_size, longest_commands}
 use Rattle.lists.specs.Froms.{from}
 use Rattle.lists.specs.Joins.{joined}
 use Rattle.protocol.specs.Frames.{bytes_of_answer, bytes_of_frame, command_in, command_of, frame_of_answer, bytes_of_command}
-use Rattle.protocol.specs.declared.Frame.{Frame}
 use Rattle.protocol.specs.Respond.{answers_to, state_after, respond}
 use Rattle.protocol.specs.State.{State}
 use Rattle.protocol.specs.declared.Answer.{Answer}
@@ -29,7 +28,7 @@ use Rattle.call_run.specs.Runs.{commands_in, eights}
 use Rattle.call_run.proofs.Cutting.{commands-append}
 use Rattle.call_run.proofs.Runs.{runs-sound, runs-long}
 use Rattle.call_run.proofs.Outcomes.{all-passed, one-status, room-by-machine, meaning-by-machine}
-use Rattle.text_hex.specs.Lines.{frame_of, line_size, line_of}
+use Rattle.text_hex.specs.Lines.{Reading, frame_of, line_size, line_of}
 use Rattle.program_batches.specs.Answers.{line_of_answer, bad_answer}
 use Rattle.program_batches.specs.Batch.{zeros, draft_of, bytes_of, kept_in, completed, Completes}
 use Rattle.program_batches.proofs.Answers.{line-of-bytes}
@@ -45,24 +44,24 @@ unfolding commands_in eights from
 one-command bytes long = rw long (ap (λ l. command_of l ∷ []) (take_all frame_size bytes (omega arith)))
 
 -- the bytes of lines are the commands of their frames
-pub commands-in-batch : (rs : List (Option Frame)) → AllFit rs → commands_in (joined bytes_of rs) ≡ commands_read rs
+pub commands-in-batch : (rs : List Reading) → AllFit rs → commands_in (joined bytes_of rs) ≡ commands_read rs
 unfolding commands_in eights from bytes_of_command
 commands-in-batch [] fits = refl
-commands-in-batch (Some frame ∷ rs) fits =
+commands-in-batch (Ok frame ∷ rs) fits =
     let bytes : List ℕ = bytes_of_frame frame in
     commands-append bytes (joined bytes_of rs) refl
     ∙ ap₂ (λ xs ys. xs ++ ys)
     (one-command bytes refl ∙ ap (λ c. c ∷ []) (command-of-bytes (command_in frame) fits.0))
     (commands-in-batch rs fits.1)
-commands-in-batch (None ∷ rs) fits = commands-in-batch rs fits.1
+commands-in-batch (Err bad ∷ rs) fits = commands-in-batch rs fits.1
 
 -- the answers to the frames at the kept places
-pub completed-drafts : (rs : List (Option Frame)) (s : State Tree) (rest more : List ℕ)
+pub completed-drafts : (rs : List Reading) (s : State Tree) (rest more : List ℕ)
     → completed (length rs) (joined draft_of rs ++ rest) (joined bytes_of_answer (answers_to trees s (commands_read rs)) ++ more)
     ≡ joined line_of_answer (answers_to_lines s rs)
 unfolding completed answers_to answers_to_lines
 completed-drafts [] s rest more = refl
-completed-drafts (Some frame ∷ rs) s rest more =
+completed-drafts (Ok frame ∷ rs) s rest more =
     let c = command_in frame in
     let a : Answer = (respond trees s c).answer in
     let next : State Tree = (respond trees s c).state in
@@ -76,7 +75,7 @@ completed-drafts (Some frame ∷ rs) s rest more =
       drop_at (bytes_of_answer a) (later ++ more) frame_size (length-of-answer a),
     )
     (ap₂ (λ l ls. l ++ ls) (line-of-bytes a) (completed-drafts rs next rest more))
-completed-drafts (None ∷ rs) s rest more =
+completed-drafts (Err bad ∷ rs) s rest more =
     rw (
       append_assoc (line_of_answer bad_answer) (joined draft_of rs) rest,
       bad-keeps-none (joined draft_of rs ++ rest),
@@ -128,7 +127,7 @@ module _ (p q commands room answers out out' : List ℕ) (lines : ℕ) (r : Outc
           → take (line_size * lines) out ≡ joined draft_of (map frame_of ls) → Sound p
           → take (line_size * lines) out' ≡ joined line_of_answer (answers_to_lines (meaning p) (map frame_of ls))
       all-answered ls is many drafts sound =
-          let rs : List (Option Frame) = map frame_of ls in
+          let rs : List Reading = map frame_of ls in
           let given : answers ≡ joined bytes_of_answer (answers_to trees (meaning p) (commands_read rs)) ++ drop (length commands) room =
           room-by-machine p commands room q answers r.count (answered sound)
           ∙ ap (λ cs. joined bytes_of_answer (answers_to trees (meaning p) cs) ++ drop (length commands) room) (frames-run ls is)
@@ -145,7 +144,7 @@ pub asks-lines : (ls : List (List ℕ)) (commands out : List ℕ) (lines frames 
     → line_size * lines ≤ length out → frame_size * frames ≤ length commands → length commands ≤ longest_commands
     → Asks (take (frame_size * frames) commands) out lines
 asks-lines ls commands out lines frames many drafts bytes room room-for-frames few =
-    let rs : List (Option Frame) = map frame_of ls in
+    let rs : List Reading = map frame_of ls in
     let long : length (take (frame_size * frames) commands) ≡ frame_size * frames = length-take-le (frame_size * frames) commands room-for-frames in
     let kept : kept_in lines out ≡ length (commands_read rs) =
     ap (λ n. kept_in n out) (many ∙ sym (length-map ls frame_of))

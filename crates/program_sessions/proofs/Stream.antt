@@ -7,7 +7,6 @@ use mathlib.Core.List.{List, [], ◌∷◌, ◌++◌, map, map-append, append-ni
 use Prim.Native.Nat.{ℕ, ◌-◌, ◌*◌, ◌/◌, ◌≤◌}
 use native.Mathlib.Omega.{arith}
 use lib.ListN.{length, take}
-use Rattle.std.proofs.Common.{Option}
 use Rattle.geometry.specs.Limits.{frame_size, longest_commands, directory_size, block_size}
 use Rattle.lists.specs.Joins.{joined}
 use Rattle.protocol.specs.State.{fresh_state}
@@ -22,8 +21,7 @@ use Rattle.text_lines.specs.Lines.{Stands, line_feed, trims, trim, ended, left, 
 use Rattle.text_lines.specs.declared.Gathered.{Gathered}
 use Rattle.text_lines.proofs.Cut.{ended-append, left-append}
 use Rattle.text_lines.proofs.Held.{lines-all-ended, lines-one-open}
-use Rattle.text_hex.specs.Lines.{frame_of, line_size}
-use Rattle.protocol.specs.declared.Frame.{Frame}
+use Rattle.text_hex.specs.Lines.{Reading, frame_of, line_size}
 use Rattle.program_batches.specs.Answers.{line_of_answer}
 use Rattle.program_batches.specs.Batch.{BatchRead}
 use Rattle.program_batches.specs.declared.Batch.{Batch}
@@ -35,7 +33,7 @@ use Rattle.program_sessions.proofs.Call.{asks-lines}
 use Rattle.program_sessions.proofs.Session.{state-append, written-append}
 
 -- the lines of a call, written behind what was written before
-written-with : (input written front : List ℕ) (before : Gathered) (keep p : List ℕ) (more : List (Option Frame)) → SessionFollows input written before keep p
+written-with : (input written front : List ℕ) (before : Gathered) (keep p : List ℕ) (more : List Reading) → SessionFollows input written before keep p
     → front ≡ joined line_of_answer (answers_to_lines (meaning p) more) → written ++ front ≡ written_for (read_from input ++ more)
 written-with input written front before keep p more f is =
     ap₂ (λ w l. w ++ l) f.lines (is ∙ ap (λ s. joined line_of_answer (answers_to_lines s more)) f.meant)
@@ -72,7 +70,7 @@ module _ (chunk : List ℕ) (before : Gathered) (keep keep' out out₁ zeros com
       follows input written f =
           let r = read.reads in
           let taken : List ℕ = take batch.taken chunk in
-          let more : List (Option Frame) = map frame_of r.lines in
+          let more : List Reading = map frame_of r.lines in
           let all_read : read_from (input ++ taken) ≡ read_from input ++ more =
           ap (map frame_of) (ended-append false [] input taken)
           ∙ map-append frame_of (ended false [] input) (ended false (left [] input) taken)

@@ -1,8 +1,7 @@
 -- What the state between two chunks stands for, and what each call of the program does to it.
-use Rattle.std.specs.Prelude.{Bool, false, ◌≡◌, List, [], ◌++◌, Option, map, ℕ, ◌≤◌, ◌<◌, length, take}
+use Rattle.std.specs.Prelude.{Bool, false, ◌≡◌, List, [], ◌++◌, map, ℕ, ◌≤◌, ◌<◌, length, take}
 use Rattle.geometry.specs.Limits.{program_pool}
-use Rattle.text_hex.specs.Lines.{frame_of, line_size}
-use Rattle.protocol.specs.declared.Frame.{Frame}
+use Rattle.text_hex.specs.Lines.{Reading, frame_of, line_size}
 use Rattle.call_run.specs.Calls.{Formats}
 use Rattle.text_lines.specs.Lines.{Stands, ended, left, lines_of}
 use Rattle.text_lines.specs.declared.Gathered.{Gathered}
@@ -12,7 +11,7 @@ use Rattle.program_sessions.specs.Session.{at_start, state_after_lines, written_
 use Rattle.program_streams.specs.declared.Taken.{Taken}
 
 -- the lines that have ended in an input, each a frame or bad
-abbrev pub read_from : List ℕ → List (Option Frame)
+abbrev pub read_from : List ℕ → List Reading
 read_from input = map frame_of (ended false [] input)
 
 -- after this input, with this much written: `keep` holds the unfinished line's first bytes, and the pool stands for the state after

@@ -1,7 +1,7 @@
 -- Numbers and their digits: one law for every number of digits. A number is read back from its digits by induction on how many
 -- there are, the last one first; what fits goes by the powers of sixteen.
 use mathlib.Core.Path.{◌≡◌, refl, ap, sym, ◌∙◌}
-use mathlib.Core.Bool.{Bool, true, false, ◌&&◌}
+use mathlib.Core.Bool.{true}
 use mathlib.Core.List.{List, [], ◌∷◌, ◌++◌, append-nil, append_assoc}
 use Prim.Native.Nat.{ℕ, zero, suc, ◌+◌, ◌*◌, ◌/◌, ◌%◌, ◌^◌, ◌≤◌, ◌<◌}
 use native.Mathlib.Nat.{pow-succ', pow-le-pow_right, mul-le-mul_right, mul_left_comm, mul_assoc, add-suc, add-zero, mul-one}

@@ -11,11 +11,11 @@ use lib.ListN.{length, take, drop, length-take}
 use lib.Seq.{take_at, drop_at, take_all, drop-drop}
 use mir.Syntax.{w8}
 use mir.Val.{Fits}
-use Rattle.std.proofs.Common.{Some, None}
+use Rattle.std.proofs.Common.{Ok}
 use Rattle.std.proofs.lemmas.Bool.{and_parts}
 use Rattle.std.proofs.lemmas.List.Folds.{list_all-append}
 use Rattle.text_hex.specs.Digits.{value_of, all_digits, number_of_digits, digits_of}
-use Rattle.text_hex.specs.Lines.{line_digits, spelled, frame_of, numbers_of, digits_of_frame}
+use Rattle.text_hex.specs.Lines.{line_digits, spelled, no_frame, frame_of, numbers_of, digits_of_frame}
 use Rattle.protocol.specs.declared.Frame.{Frame}
 use Rattle.text_hex.proofs.Written.{length-of-frame}
 use Rattle.text_hex.proofs.Digits.{digits-are-digits, length-of-digits, number_fits, number-of-digits}
@@ -52,15 +52,15 @@ byte_fits line at byte is digits =
     }
 
 -- What a line holds, by the two tests.
-pub frame-of-other-length : (line : List ℕ) → (length line ≡ line_digits → ⊥) → None ≡ frame_of line
+pub frame-of-other-length : (line : List ℕ) → (length line ≡ line_digits → ⊥) → no_frame ≡ frame_of line
 unfolding frame_of
 frame-of-other-length line other = rw (ne_eqb (length line) line_digits other)
 
-pub frame-of-no-digits : (line : List ℕ) → length line ≡ line_digits → all_digits line ≡ false → None ≡ frame_of line
+pub frame-of-no-digits : (line : List ℕ) → length line ≡ line_digits → all_digits line ≡ false → no_frame ≡ frame_of line
 unfolding frame_of
 frame-of-no-digits line long none = rw (eq-eqb (length line) line_digits long, none)
 
-pub frame-of-digits : (line : List ℕ) → length line ≡ line_digits → all_digits line ≡ true → Some (spelled line) ≡ frame_of line
+pub frame-of-digits : (line : List ℕ) → length line ≡ line_digits → all_digits line ≡ true → Ok (spelled line) ≡ frame_of line
 unfolding frame_of
 frame-of-digits line long digits = rw (eq-eqb (length line) line_digits long, digits)
 
@@ -75,7 +75,7 @@ frame-with first second third fourth number = record { first = first; second = s
 pub frame-read : (line : List ℕ) (answer : Bool) (first second third fourth number : ℕ) → length line ≡ line_digits → answer ≡ all_digits line → not answer ≡ false
     → first ≡ number_of_digits (take 2 line) → second ≡ number_of_digits (take 2 (drop 2 line)) → third ≡ number_of_digits (take 2 (drop 4 line))
     → fourth ≡ number_of_digits (take 2 (drop 6 line)) → number ≡ number_of_digits (take 8 (drop 8 line))
-    → Some (frame-with first second third fourth number) ≡ frame_of line
+    → Ok (frame-with first second third fourth number) ≡ frame_of line
 unfolding spelled
 frame-read line answer first second third fourth number long is none a b c d n =
     rw (a, b, c, d, n) (frame-of-digits line long (digits-told line answer is none))
@@ -122,9 +122,9 @@ module _ (frame : Frame) (a : frame.first < 256) (b : frame.second < 256) (c : f
   all-digits-of-frame = simp (list_all-append, digits-are-digits)
 
   -- reading what was written gives the frame back
-  pub frame-of-written : frame_of (digits_of_frame frame) ≡ Some frame
+  pub frame-of-written : frame_of (digits_of_frame frame) ≡ Ok frame
   frame-of-written =
-      sym (frame-of-digits (digits_of_frame frame) (length-of-frame frame) all-digits-of-frame) ∙ ap Some spelled-again
+      sym (frame-of-digits (digits_of_frame frame) (length-of-frame frame) all-digits-of-frame) ∙ ap Ok spelled-again
 
   -- and so its numbers
   pub numbers-of-written : numbers_of (frame_of (digits_of_frame frame)) ≡ frame.first ∷ frame.second ∷ frame.third ∷ frame.fourth ∷ frame.number ∷ []

@@ -1,8 +1,9 @@
 -- Frames and answers as lines of hexadecimal digits.
-use Rattle.std.specs.Prelude.{Bool, cond, ◌&&◌, List, [], ◌∷◌, ◌++◌, Option, Some, None, ℕ, ◌+◌, ◌*◌, eqb, length, take, drop}
+use Rattle.std.specs.Prelude.{Bool, cond, ◌&&◌, List, [], ◌∷◌, ◌++◌, ℕ, ◌+◌, ◌*◌, eqb, length, take, drop, Result, Ok, Err}
 use Rattle.geometry.specs.Limits.{frame_size}
 use Rattle.protocol.specs.declared.Frame.{Frame}
 use Rattle.text_hex.specs.Digits.{all_digits, number_of_digits, digits_of}
+use Rattle.text_hex.specs.declared.read.Bad.{Bad}
 
 -- digits of a line: two for each byte of a frame
 abbrev pub line_digits : ℕ
@@ -23,14 +24,22 @@ spelled line =
       number = number_of_digits (take 8 (drop 8 line));
     }
 
--- what a line holds: a frame exactly if it is sixteen hexadecimal digits
-unfoldable pub frame_of : List ℕ → Option Frame
-frame_of line = cond (is_frame line) (Some (spelled line)) None
+-- what a line holds: a frame, or it is bad
+abbrev pub Reading : Type 0
+Reading = Result Frame Bad
+
+-- what a bad line holds
+abbrev pub no_frame : Reading
+no_frame = Err (record {})
+
+-- a line holds a frame exactly if it is sixteen hexadecimal digits
+unfoldable pub frame_of : List ℕ → Reading
+frame_of line = cond (is_frame line) (Ok (spelled line)) no_frame
 
 -- the numbers of each case: a frame's own, and those of the answer FF00000000000000 that a bad line gets
-abbrev pub numbers_of : Option Frame → List ℕ
-numbers_of (Some frame) = frame.first ∷ frame.second ∷ frame.third ∷ frame.fourth ∷ frame.number ∷ []
-numbers_of None = 255 ∷ 0 ∷ 0 ∷ 0 ∷ 0 ∷ []
+abbrev pub numbers_of : Reading → List ℕ
+numbers_of (Ok frame) = frame.first ∷ frame.second ∷ frame.third ∷ frame.fourth ∷ frame.number ∷ []
+numbers_of (Err bad) = 255 ∷ 0 ∷ 0 ∷ 0 ∷ 0 ∷ []
 
 -- the sixteen digits of a frame
 unfoldable pub digits_of_frame : Frame → List ℕ

@@ -6,5 +6,5 @@ mod read;
 mod tables;
 mod write;
 
-pub use read::read_line;
+pub use read::{Bad, read_line};
 pub use write::{LINE_SIZE, write_line};

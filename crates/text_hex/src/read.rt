@@ -7,14 +7,18 @@ use crate::digit::value;
 use crate::write::LINE_DIGITS;
 use protocol::Frame;
 
+// A line that is no frame.
+#[derive(Clone, Copy, PartialEq, Eq, Debug)]
+pub struct Bad;
+
 // The frame that a line spells, if it is sixteen digits.
-pub fn read_line(line: &[u8]) -> Option<Frame>
+pub fn read_line(line: &[u8]) -> Result<Frame, Bad>
     ensures { result ≡ frame_of line.now }
 {
     if line.len() != LINE_DIGITS || !are_digits(line) {
-        return None;
+        return Err(Bad);
     }
-    Some(Frame {
+    Ok(Frame {
         first: byte_at(line, 0),
         second: byte_at(line, 2),
         third: byte_at(line, 4),
