@@ -2,7 +2,6 @@
 use mathlib.Core.Path.{◌≡◌, refl, ap, ◌∙◌}
 use mathlib.Core.List.{List}
 use Prim.Native.Nat.{ℕ, zero, suc, ◌≤◌, ◌<◌}
-use native.Mathlib.Omega.{arith}
 use Rattle.geometry.specs.Layout.{least_branch, most_branch}
 use Rattle.geometry.specs.Limits.{most_alphabet}
 use Rattle.geometry.specs.declared.Record.{Record}
@@ -10,8 +9,6 @@ use Rattle.pool.proofs.Summaries.{own-count}
 use Rattle.pool.specs.Blocks.{entries}
 use Rattle.pool.specs.Sound.{SoundBlock, SoundBelow}
 use Rattle.pool.specs.Trees.{shape_at, own_count}
-use Rattle.pool.specs.Words.{word_limit}
-use Rattle.sequence.proofs.Counts.{count-le-length}
 use Rattle.sequence.proofs.Ranks.{rank-length}
 use Rattle.sequence.specs.Definition1.{count, rank}
 use Rattle.shape.specs.Fill.{root_least}
@@ -43,14 +40,8 @@ module _ (p : List ℕ) (r : Record) (o : OfOpenName p r) (c : ℕ) (low : c < m
     root-block : SoundBlock p (root_least r.height) r.height r.root
     root-block = rw o.is o.opened.root
 
-    pub branch-least : least_branch ≤ entries p r.root
-    branch-least = (branch-size p r.height r.root branch root-block).0
-
     pub branch-most : entries p r.root ≤ most_branch
     branch-most = (branch-size p r.height r.root branch root-block).1
-
-    pub branch-few : r.length < word_limit → own_count p 1 r.root c < word_limit
-    branch-few short = omega (arith, root-says, count-le-length c (marks_t (tree_by p r)), record-length p r o)
 
     pub branch-counted : (n : ℕ) → n ≡ own_count p 1 r.root c → n ≡ count c (marks_t (tree_by p r))
     branch-counted n says = says ∙ root-says

@@ -53,19 +53,8 @@ pub fn count(pool: &[u8], found: Record, c: u8) -> usize
 {
     let root = found.root as usize;
     if found.height == 0 {
-        return rank_in(&pool, found.height, root, c, found.length as usize);
+        rank_in(&pool, found.height, root, c, found.length as usize)
+    } else {
+        Block { pool, b: root }.own_count(1, c as usize)
     }
-    count_in_branch(pool, root, c as usize)
-}
-
-// How many marks c the entries of a branch say.
-fn count_in_branch(pool: &[u8], b: usize, c: usize) -> usize
-    requires inside { (b < shares pool.now) × (c < most_alphabet) }
-    requires size { (least_branch ≤ entries_of pool.now b) × (entries_of pool.now b ≤ most_branch)
-        × (own_count pool.now 1 b c < word_limit) }
-    ensures { result ≡ own_count pool.now 1 b c }
-{
-    let offset = Record::ENTRY_COUNTS_AT + Record::WORD_SIZE * c;
-    let block = Block { pool, b };
-    block.words_before(offset, block.entry_count())
 }
