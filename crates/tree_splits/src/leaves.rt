@@ -34,7 +34,7 @@ pub fn insert_in_leaf(
 }
 
 // Puts c in at place i of the full leaf b, whose second half goes to the block `new`.
-// `split_branch` is its twin: one function over a trait would need laws of lists whose proofs stand in specs/, which is longer.
+// `split_branch` is its twin: one function over a trait would need laws of lists, whose proofs would have to stand in specs/.
 fn split_leaf(pool: &mut [u8], b: usize, new: usize, i: usize, c: u8)
     requires full { LeafAt pool.old b × (length (leaf_marks pool.old b) ≡ most_leaf) }
     requires other { (new < shares pool.old) × (b ≡ new → ⊥) }
