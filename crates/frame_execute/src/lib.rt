@@ -21,7 +21,7 @@ pub fn execute(pool: &mut [u8], c: Command, map: &mut [u8]) -> Answer
 {
     match carry_out(pool, c, map) {
         Ok(answer) => answer,
-        Err(reason) => Answer::refused(c, reason),
+        Err(reason) => Answer::refused(c, reason as u8),
     }
 }
 

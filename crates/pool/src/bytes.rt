@@ -31,7 +31,7 @@ pub fn put_byte(pool: &mut [u8], at: usize, value: u8)
     pool[at] = value;
 }
 
-// Puts a word at an address, low byte first.
+// Puts a word at an address, low byte first. Two stores, since copy_from_slice of so few bytes takes more instructions than it saves.
 #[tactic(auto, unfolding(crate::specs::Bytes::word))]
 pub(crate) fn put_u16(pool: &mut [u8], at: usize, value: u16)
     requires { at + word_size ≤ length pool.old }

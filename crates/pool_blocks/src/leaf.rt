@@ -1,4 +1,5 @@
-// A leaf's own functions: their contracts speak of its marks. Places count from 1.
+// A leaf's own functions: their contracts speak of its marks. Places count from 1. They take pool and block and no `Block`, which doesn't say
+// that it is a leaf.
 ghost use Rattle.std.specs.Prelude.{◌≡◌, ◌+◌, ◌≤◌, ◌<◌, length};
 ghost use Rattle.geometry.specs.Layout.{most_leaf};
 ghost use Rattle.sequence.specs.Definition1.{access, rank, select};
@@ -87,7 +88,7 @@ pub fn delete_mark(pool: &mut [u8], b: usize, i: usize) -> u8
 }
 
 // Moves the marks behind the first `cut` to the block `new`.
-// `cut_branch` is its twin: one function over a trait would need laws of lists, whose proofs would have to stand in specs/.
+// `cut_branch` is its twin: each promises what it cuts, and must-fail/cut_leaves_the_counts gives that one the wrong size of an entry.
 pub fn cut_leaf(pool: &mut [u8], b: usize, new: usize, cut: usize)
     requires { LeafAt pool.old b × (new < shares pool.old) × (b ≡ new → ⊥)
         × (cut ≤ length (leaf_marks pool.old b)) }

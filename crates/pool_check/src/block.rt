@@ -1,5 +1,5 @@
 // One block of a tree by itself: whether it may be entered, and a leaf's marks.
-ghost use Rattle.std.specs.Prelude.{◌≡◌, ◌+◌, ◌≤◌, ◌<◌, length, [], ◌∷◌};
+ghost use Rattle.std.specs.Prelude.{◌≡◌, ◌+◌, ◌≤◌, ◌<◌, [], ◌∷◌};
 ghost use Rattle.geometry.specs.Layout.{most_leaf};
 ghost use Rattle.lists.specs.Items.{AllBelow};
 ghost use Rattle.pool.specs.Blocks.{entries, leaf_marks};

@@ -1,5 +1,5 @@
 // The directory's bytes: the header, and stretches that must be 0.
-ghost use Rattle.std.specs.Prelude.{◌+◌, ◌≤◌, ◌<◌, length};
+ghost use Rattle.std.specs.Prelude.{◌+◌, ◌≤◌, length};
 ghost use Rattle.geometry.specs.Limits.{directory_size};
 ghost use Rattle.pool.specs.Sound.{SoundHeader};
 ghost use Rattle.pool_check.specs.Parts.{Zeros};

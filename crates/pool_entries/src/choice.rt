@@ -3,7 +3,6 @@ ghost use Rattle.std.specs.Prelude.{◌≡◌, ◌+◌, ◌≤◌, ◌<◌};
 ghost use Rattle.geometry.specs.Layout.{least_branch, most_branch, entry_size, word_size};
 ghost use Rattle.lists.specs.Sums.{sum_below};
 ghost use Rattle.pool.specs.Blocks.{entries};
-ghost use Rattle.pool.specs.Bytes.{shares};
 ghost use Rattle.pool_entries.specs.Summaries.{words_at};
 ghost use Rattle.pool_entries.specs.Seats.{Seated};
 

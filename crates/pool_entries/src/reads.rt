@@ -1,9 +1,9 @@
-// What a branch says of itself and of each child.
+// What a branch says of itself and of each child. That an index is in its range stays a clause, here and elsewhere: a type for each index
+// would have to be taken apart for every address.
 ghost use Rattle.std.specs.Prelude.{◌≡◌, ◌+◌, ◌≤◌, ◌<◌};
 ghost use Rattle.geometry.specs.Layout.{most_branch, entry_size, word_size};
 ghost use Rattle.geometry.specs.Limits.{most_alphabet};
 ghost use Rattle.pool.specs.Blocks.{entries, entry_at, link as link_of, marks_below, count_below};
-ghost use Rattle.pool.specs.Bytes.{shares};
 ghost use Rattle.pool.specs.Words.{address_limit};
 ghost use Rattle.pool_entries.specs.Summaries.{Is, words_at};
 
@@ -21,7 +21,7 @@ pub fn entry_at(b: usize, k: usize) -> usize
 
 impl Block<'_> {
     // The word that entry k has at an offset.
-    pub fn entry_word(&self, k: usize, offset: usize) -> usize
+    pub(crate) fn entry_word(&self, k: usize, offset: usize) -> usize
         requires { (k < most_branch) × (offset + word_size ≤ entry_size) }
         ensures { Is (words_at self.now.pool.now self.now.b offset k) result }
     {

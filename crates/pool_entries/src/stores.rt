@@ -1,4 +1,5 @@
-// One entry of a branch written, or adjusted by a mark.
+// One entry of a branch written, or adjusted by a mark. A child and its summary are two parameters: they come from two steps at each call,
+// and a struct of both would be taken apart at once.
 ghost use Rattle.std.specs.Prelude.{◌+◌, ◌*◌, ◌≤◌, ◌<◌, length};
 ghost use Rattle.geometry.specs.Layout.{most_branch, word_size};
 ghost use Rattle.geometry.specs.Limits.{most_alphabet};

@@ -2,7 +2,6 @@
 ghost use Rattle.std.specs.Prelude.{◌≡◌, ◌≤◌, ◌<◌};
 ghost use Rattle.geometry.specs.Limits.{most_alphabet};
 ghost use Rattle.pool.specs.Blocks.{entries};
-ghost use Rattle.pool.specs.Bytes.{shares};
 ghost use Rattle.pool.specs.Trees.{own_marks, own_count};
 ghost use Rattle.shape.specs.Sizes.{one_to_a_byte, most};
 ghost use Rattle.pool_entries.specs.Summaries.{SummaryOf, SmallSums};

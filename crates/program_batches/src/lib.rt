@@ -43,7 +43,7 @@ pub fn read_lines(
         frames: 0,
         line: before,
     };
-    // each turn takes as many bytes as its line has, so no `for` counts them
+    // each turn takes as many bytes as its line has, so no `for` counts them; the place is the batch's, which counts from the chunk's front
     while batch.taken < chunk.len()
         && batch.lines < out.len() / LINE_SIZE
         && batch.frames < commands.len() / Record::FRAME_SIZE

@@ -1,7 +1,7 @@
 // The insert frames of a Fortran file that comes in chunks: one line of digits for each line of the file, its mark into name 0.
 #![tactic(auto)]
 
-ghost use Rattle.std.specs.Prelude.{[], ◌≡◌, ◌+◌, ◌≤◌, min, length};
+ghost use Rattle.std.specs.Prelude.{◌≡◌, ◌+◌, ◌≤◌, min, length};
 ghost use Rattle.geometry.specs.Limits.{most_marks};
 ghost use Rattle.text_hex.specs.Lines.{line_size};
 ghost use Rattle.program_insertions.specs.Stream.{FileStarts, PutsFrame, GoesOn, FileEnds};

@@ -5,8 +5,7 @@ ghost use Rattle.std.specs.Prelude.{◌≡◌, ◌+◌, ◌≤◌, length, take,
 ghost use Rattle.std.proofs.Math.Seq.{paste};
 ghost use Rattle.geometry.specs.Limits.{frame_size};
 ghost use Rattle.protocol.specs.Frames.{frame_of_bytes, bytes_of_frame, command_in, answer_in, frame_of_command, frame_of_answer};
-ghost use Rattle.protocol.specs.Frames.{command_of, answer_of_bytes, bytes_of_command, bytes_of_answer};
-ghost use Rattle.protocol.specs.Numbers.{number_of_reason};
+ghost use Rattle.protocol.specs.Frames.{command_of, bytes_of_answer};
 ghost use Rattle.protocol.specs.Respond.{refused as refused_with, value_to};
 
 use geometry::Record;
@@ -25,6 +24,7 @@ pub struct Frame {
     pub number: u32,
 }
 
+// A frame as a command. Its code is a byte, since any may come in: `Operation::try_from` reads it.
 #[derive(Clone, Copy)]
 pub struct Command {
     pub code: u8,
@@ -34,6 +34,7 @@ pub struct Command {
     pub number: u32,
 }
 
+// A frame as an answer. Its status is 0 or a reason's number, and 255 where a line was no frame.
 #[derive(Clone, Copy)]
 pub struct Answer {
     pub status: u8,
@@ -170,11 +171,11 @@ impl Answer {
     }
 
     // The answer to a refused command.
-    pub fn refused(c: Command, reason: Reason) -> Self
-        ensures { result ≡ refused_with (number_of_reason reason) c }
+    pub fn refused(c: Command, status: u8) -> Self
+        ensures { result ≡ refused_with status c }
     {
         Answer {
-            status: reason as u8,
+            status,
             name: c.name,
             symbol: 0,
             depth: 0,

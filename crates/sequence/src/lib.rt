@@ -28,7 +28,7 @@ pub fn count_in(marks: &[u8], from: usize, to: usize, symbol: u8) -> usize
     met
 }
 
-// The place of the j-th `symbol`: 0 for the 0-th, the number of marks where there are fewer than j.
+// The place of the j-th `symbol`: 0 for the 0-th, the number of marks where there are fewer than j, as `select` has it.
 pub fn find(marks: &[u8], symbol: u8, j: usize) -> usize
     ensures { result ≡ select symbol marks.now j }
 {

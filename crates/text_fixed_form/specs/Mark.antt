@@ -32,13 +32,13 @@ abbrev pub other : ℕ
 other = 0
 
 -- the number that stands for what a line is
-abbrev pub number_of : LineMark → ℕ
-number_of Other = other
-number_of Comment = comment
-number_of Continuation = continuation
-number_of StorageShared = storage_shared
-number_of Common = common
-number_of Outside = outside
+abbrev pub symbol_of : LineMark → ℕ
+symbol_of Other = other
+symbol_of Comment = comment
+symbol_of Continuation = continuation
+symbol_of StorageShared = storage_shared
+symbol_of Common = common
+symbol_of Outside = outside
 
 -- Columns.
 

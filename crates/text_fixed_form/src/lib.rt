@@ -2,7 +2,8 @@
 #![tactic(auto)]
 
 ghost use Rattle.std.specs.Prelude.{◌≡◌};
-ghost use Rattle.text_fixed_form.specs.Mark.{mark_of, number_of, first_that_fits, rules, is_comment, is_continuation, opens_comment, continues};
+ghost use Rattle.text_fixed_form.specs.Mark.{mark_of, symbol_of, first_that_fits, rules};
+ghost use Rattle.text_fixed_form.specs.Mark.{is_comment, is_continuation, opens_comment, continues};
 
 use columns::{BLANK, all_blank, any_outside, column, columns_after};
 use geometry::Record;
@@ -28,7 +29,8 @@ enum LineMark {
     Outside = 15,
 }
 
-// The mark of `line`, which comes without its line end and may have any length and any bytes.
+// The mark of `line`, which comes without its line end and may have any length and any bytes. It is a number, since that is what the index
+// keeps and what C links.
 #[tactic(auto, unfolding(crate::specs::Mark::mark_of))]
 pub fn mark(line: &[u8]) -> u8
     ensures { result ≡ mark_of line.now }
@@ -38,7 +40,7 @@ pub fn mark(line: &[u8]) -> u8
 
 // The mark of a line whose columns are all read: that of the first rule that fits.
 fn mark_of_card(card: &[u8]) -> LineMark
-    ensures { number_of result ≡ first_that_fits (rules card.now) }
+    ensures { symbol_of result ≡ first_that_fits (rules card.now) }
 {
     if any_outside(card) {
         return LineMark::Outside;

@@ -10,7 +10,8 @@ use pool_entries::Block;
 // A way has a step at each level, the leaves' too.
 pub const LEVELS: usize = Record::MOST_HEIGHT + 1;
 
-// One level of a way: the block entered, and the child taken there. At a leaf there is none, and 0 stands for it.
+// One level of a way: the block entered, and the child taken there. At a leaf there is none, and 0 stands there, which nothing reads: an
+// option would have to be taken apart at each level, where there always is one.
 #[derive(Clone, Copy)]
 pub struct Step {
     pub block: usize,

@@ -1,11 +1,8 @@
-// Queries of an open name, by the record that was read of it.
+// Queries of an open name, by the record that was read of it. Pool and record stay two parameters: that the record is an open name's
+// (`OfOpenName`) names some name, and a type's invariant takes only what has one proof. Casts that widen stay `as`: by `from` no proof closes.
 ghost use Rattle.std.specs.Prelude.{◌≡◌, ◌≤◌, ◌<◌, length as length_of};
-ghost use Rattle.geometry.specs.Layout.{least_branch, most_branch};
 ghost use Rattle.geometry.specs.Limits.{most_alphabet};
-ghost use Rattle.pool.specs.Blocks.{entries as entries_of};
-ghost use Rattle.pool.specs.Bytes.{shares};
 ghost use Rattle.pool.specs.Trees.{own_count};
-ghost use Rattle.pool.specs.Words.{word_limit};
 ghost use Rattle.sequence.specs.Definition1.{count as count_of, rank as rank_of, select as select_of};
 ghost use Rattle.shape.specs.Trees.{marks_t};
 ghost use Rattle.tree_query.specs.Answers.{FoundOf};

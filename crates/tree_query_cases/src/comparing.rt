@@ -9,7 +9,7 @@ use crate::{MARKS_AT, NUMBER_AT};
 use geometry::Record;
 use std::fmt;
 
-// An open name of the pool, by the record that was read of it.
+// An open name of the pool, by the record that was read of it. That it is open stays a clause (`tree_query/src/by_name.rt` says why).
 #[derive(Clone, Copy)]
 pub struct Asked<'a> {
     pub pool: &'a [u8],
