@@ -36,7 +36,8 @@ pub fn run(pool: &mut [u8], commands: &[u8], answers: &mut [u8]) -> Result<u32, 
     Ok((commands.len() / Record::FRAME_SIZE) as u32)
 }
 
-// Runs the frames on a sound pool, whose map says which blocks are free.
+// Runs the frames on a sound pool, whose map says which blocks are free. A frame's place is the same in both buffers, so the loop goes over
+// places: chunks of both would have the room behind the answers told apart first.
 fn run_frames(pool: &mut [u8], commands: &[u8], answers: &mut [u8], map: &mut [u8])
     requires { FramesReady pool.old map.old commands.now answers.old }
     ensures { FramesRun pool.old commands.now answers.old pool.new answers.new }

@@ -38,7 +38,7 @@ fn put_counts(pool: &mut [u8], at: usize, counts: [u16; Record::MOST_ALPHABET])
     }
 }
 
-// One more mark below child k, a c.
+// One more mark below child k, a c. With `take_mark` it is no twin to join: one asks for room, the other that a mark is there.
 pub fn add_mark(pool: &mut [u8], b: usize, k: usize, c: usize)
     requires inside { (b < shares pool.old) × (k < most_branch) × (c < most_alphabet) }
     requires room { (marks_below pool.old b k + 1 < word_limit) × (count_below pool.old b k c + 1 < word_limit) }

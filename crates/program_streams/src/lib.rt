@@ -14,7 +14,7 @@ use std::fmt;
 use std::io::{Read, Write};
 use std::process::ExitCode;
 
-// What came of a chunk's bytes.
+// What came of a chunk's bytes. Lengths and no slices, since the filter fills what its caller lends and writes out.
 #[derive(Clone, Copy, Debug, PartialEq, Eq)]
 pub struct Taken {
     // how many bytes were taken from the chunk's front
