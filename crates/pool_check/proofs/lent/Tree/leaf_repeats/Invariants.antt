@@ -10,10 +10,10 @@ use Rattle.pool_check.proofs.lent.Tree.leaf_repeats.Given as goal
 
 abbrev pub invariant-loop-left : goal.invariant-loop-left
 invariant-loop-left l =
-    let p = l.self.pool.bytes.now in
+    let p = l.parent.pool.now in
     (l.c ≤ most_alphabet)
     × (l.left + sum_below l.c (count_below p l.parent.b l.k) ≡ sum_below most_alphabet (count_below p l.parent.b l.k))
-    × ClaimsTo p l.parent.b l.k l.fn.leaf l.self.alphabet l.c
+    × ClaimsTo p l.parent.b l.k l.fn.leaf l.alphabet l.c
 
 abbrev pub decreases-loop-left : goal.decreases-loop-left
 decreases-loop-left l = most_alphabet - l.c
