@@ -31,7 +31,7 @@ pub fn put_byte(pool: &mut [u8], at: usize, value: u8)
     pool[at] = value;
 }
 
-// Puts a word at an address, low byte first. Two stores, since copy_from_slice of so few bytes takes more instructions than it saves.
+// Puts a word at an address, low byte first. Two stores, as a frame's eight bytes are put (protocol/src/lib.rt has the figure for those).
 #[tactic(auto, unfolding(crate::specs::Bytes::word))]
 pub(crate) fn put_u16(pool: &mut [u8], at: usize, value: u16)
     requires { at + word_size ≤ length pool.old }

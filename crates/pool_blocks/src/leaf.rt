@@ -1,5 +1,5 @@
-// A leaf's own functions: their contracts speak of its marks. Places count from 1. They take pool and block and no `Block`, which doesn't say
-// that it is a leaf.
+// A leaf's own functions: their contracts speak of its marks. Places count from 1. They take pool and block and no `Block`, which doesn't
+// say that it is a leaf.
 ghost use Rattle.std.specs.Prelude.{◌≡◌, ◌+◌, ◌≤◌, ◌<◌, length};
 ghost use Rattle.geometry.specs.Layout.{most_leaf};
 ghost use Rattle.sequence.specs.Definition1.{access, rank, select};

@@ -9,8 +9,8 @@ pub struct Lent<'a> {
     ghost sized: { (directory_size ≤ length bytes.now) × (length bytes.now ≤ longest_pool) },
 }
 
-// A name's tree in it: the size of the name's alphabet, and the number that the map has for the blocks of the name. Blocks are numbers here,
-// since the walk is what finds whether they are the pool's.
+// A name's tree in it: the size of the name's alphabet, and the number that the map has for the blocks of the name. Blocks are numbers
+// here, since the walk is what finds whether they are the pool's.
 #[derive(Clone, Copy)]
 pub struct Tree<'a> {
     pub pool: Lent<'a>,

@@ -110,7 +110,7 @@ fn claim_holds(marks: &[u8], c: usize, told: usize, alphabet: u8) -> bool
         || c < usize::from(alphabet) && told == count_in(marks, 0, Record::BLOCK_SIZE, c as u8)
 }
 
-// A branch, by adding up its entries. No way out of the loop, so that the compiler compares several counts at once.
+// A branch, by adding up its entries. One test at the end, and no way out of the loop.
 fn branch_repeats(pool: &[u8], b: usize, k: usize, child: usize) -> bool
     requires parent { (b < shares pool.now) × (k < most_branch) }
     requires child { (child < shares pool.now) × (least_branch ≤ entries pool.now child)

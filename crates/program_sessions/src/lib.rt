@@ -18,7 +18,7 @@ use text_lines::{Gathered, LINE_FEED};
 pub fn start(pool: &mut [u8]) -> Gathered
     ensures { SessionStarts pool.old pool.new result }
 {
-    // refused only for a pool of another length, which stays as it was (`SessionStarts`)
+    // refused only for a pool whose length isn't allowed, which stays as it was (`SessionStarts`)
     let _ = format(pool);
     Gathered::start()
 }
@@ -52,7 +52,7 @@ fn answer(pool: &mut [u8], commands: &[u8], out: &mut [u8], lines: usize) -> usi
         × AnswersLines pool.old pool.new commands.now out.old out.new lines }
 {
     let mut answers = [0u8; Record::LONGEST_COMMANDS];
-    // refused only for a pool that isn't sound, which stays as it was (`AnswersLines`)
+    // refused for a pool that isn't sound or has no allowed length, which stays as it was (`AnswersLines`)
     let _ = run(pool, commands, &mut answers);
     complete(out, lines, &answers);
     LINE_SIZE * lines
