@@ -21,7 +21,7 @@ extern "C" {
 #endif
 
 /* The release, which pkg-config's --modversion tells too. */
-#define FORFOCHRY_VERSION "2.0.0"
+#define FORFOCHRY_VERSION "2.0.1"
 
 /* A pool has a multiple of 128 bytes, from 640 to 65,536: a directory of 512 and at least one block of 128, which is one share. */
 #define FORFOCHRY_SHORTEST_POOL 640

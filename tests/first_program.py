@@ -3,8 +3,8 @@
 
     tests/first_program.py --write    write crates/answers/stdin and stdout: the session below
     tests/first_program.py            run target/bin/answers on that session, on small and long inputs handed over in pieces of random
-                                      sizes, on an input cut at each place and on a million frames; exit 1 at the first difference.
-                                      Only the time of the last is printed: no test depends on it
+                                      sizes, on an input cut at each place, on a million frames and where reading or writing fails; exit 1
+                                      at the first difference. Only the time of the million is printed: no test depends on it
 """
 import os
 import random
@@ -12,7 +12,7 @@ import sys
 import time
 
 import stored
-from program import Difference, Talk, compare, fail, here, pieces, run
+from program import Difference, Talk, compare, fail, here, hold_failures, pieces, run
 
 sys.path.insert(0, os.path.join(stored.TOP, "tests", "independent"))
 import sessions  # noqa: E402
@@ -106,6 +106,8 @@ def main(words):
         cuts = cut_everywhere(program, sent + b"\n09ff000000000000\r\n0\n0" + b"0" * 16 + b"\n09FF000000000000")
         print(f"first program: {runs} inputs in pieces or long and {cuts} cuts answered as the independent index says")
         print(f"first program: a million frames in one go took {a_million(program):.2f} s")
+        hold_failures(program)
+        print("first program: a read and a write that fail are told under its name, with exit status 1")
     except Difference as difference:
         fail("first program", difference)
 

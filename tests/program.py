@@ -94,6 +94,21 @@ def run(path, data):
     return Talk(path).end([data])
 
 
+def hold_failures(path):
+    """Raises what a program does in place of telling, under its own name, that reading or writing failed, and ending with status 1."""
+    name, folder, full = os.path.basename(path), os.open(TOP, os.O_RDONLY), os.open("/dev/full", os.O_WRONLY)
+    for told, streams in (
+        ("input can't be read", {"stdin": folder, "stdout": subprocess.PIPE}),
+        ("output can't be written", {"input": b"\n", "stdout": full}),
+    ):
+        ended = subprocess.run([path], stderr=subprocess.PIPE, timeout=6 * PATIENCE, **streams)
+        wanted, got = (f"{name}: standard {told}\n".encode(), b"", 1), (ended.stderr, ended.stdout or b"", ended.returncode)
+        if got != wanted:
+            raise Difference("expected on standard error {!r}, on output {!r}, status {}; got {!r}, {!r}, {}".format(*wanted, *got))
+    os.close(folder)
+    os.close(full)
+
+
 def compare(label, data, wanted, result):
     """Raises the first line of an input that isn't answered as wanted; one line is written for each."""
     got, status = result

@@ -3,13 +3,14 @@
 
     tests/second_program.py --write    write crates/marks/stdin and stdout from the table of cases below
     tests/second_program.py            run target/bin/marks on the table's cases, at the limit of 12,192 lines, on long lines and on
-                                       random files, each handed over in pieces of random sizes; exit 1 at the first difference
+                                       random files, each handed over in pieces of random sizes, and where reading or writing fails;
+                                       exit 1 at the first difference
 """
 import random
 import sys
 
 import stored
-from program import Difference, Talk, compare, fail, here, pieces
+from program import Difference, Talk, compare, fail, here, hold_failures, pieces
 
 LIMIT = 12192
 SIZES = [1, 2, 3, 71, 72, 73, 4096, 65536]
@@ -153,9 +154,10 @@ def main(words):
             by_rules = frames([mark(line) for line in lines(data)])
             compare(f"input {tried}", data, by_rules, Talk(program).end(pieces(data, SIZES, chance)))
             tried += 1
+        hold_failures(program)
     except Difference as difference:
         fail("second program", difference)
-    print(f"second program: {tried} inputs answered as the rules say")
+    print(f"second program: {tried} inputs answered as the rules say; a read and a write that fail are told under its name, with exit status 1")
 
 
 main(sys.argv[1:])

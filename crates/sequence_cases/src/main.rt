@@ -5,17 +5,28 @@
 use sequence::{count_in, find};
 use std::{array, io};
 
-// How many of the marks are `symbol`.
+// How many of the marks are `symbol`. With `filter` and `count` the whole program had a fifth more instructions.
 fn plain_count(marks: &[u8], symbol: u8) -> usize {
-    marks.iter().filter(|mark| **mark == symbol).count()
+    let mut met = 0;
+    for mark in marks {
+        met += usize::from(*mark == symbol);
+    }
+    met
 }
 
-// The place of the `symbol` that has so many before it, or the number of marks.
+// The place of the `symbol` that has so many before it, or the number of marks. With `filter` and `nth` over the places the whole program had
+// half as many instructions again.
 fn plain_place(marks: &[u8], symbol: u8, before: usize) -> usize {
-    (1..=marks.len())
-        .filter(|place| marks[*place - 1] == symbol)
-        .nth(before)
-        .unwrap_or(marks.len())
+    let mut left = before;
+    for (at, mark) in marks.iter().enumerate() {
+        if *mark == symbol {
+            if left == 0 {
+                return at + 1;
+            }
+            left -= 1;
+        }
+    }
+    marks.len()
 }
 
 // Every stretch that starts at `from`.

@@ -1,2 +1,3 @@
 pub mod LastColumn
 pub mod Texts
+pub mod Passes
