@@ -157,7 +157,8 @@ def main(words):
         hold_failures(program)
     except Difference as difference:
         fail("second program", difference)
-    print(f"second program: {tried} inputs answered as the rules say; a read and a write that fail are told under its name, with exit status 1")
+    print(f"second program: {tried} inputs answered as the rules say")
+    print("second program: a read and a write that fail are told under its name, with exit status 1")
 
 
 main(sys.argv[1:])

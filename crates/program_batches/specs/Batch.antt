@@ -1,5 +1,6 @@
 -- The lines of one call: a bad line is answered at once, a frame joins the commands and a line of zeros keeps its answer's place.
-use Rattle.std.specs.Prelude.{false, cond, ◌≡◌, List, [], ◌++◌, map, ℕ, zero, suc, ◌+◌, ◌*◌, ◌≤◌, ◌<◌, eqb, length, get_or, take, drop, Ok, Err}
+use Rattle.std.specs.Prelude.{false, cond, ◌≡◌, List, [], ◌++◌, map, ℕ, zero, suc, ◌+◌, ◌*◌, ◌≤◌, ◌<◌, eqb, length, get_or, take, drop}
+use Rattle.std.specs.Prelude.{Ok, Err}
 use Rattle.std.proofs.Math.Seq.{paste}
 use Rattle.geometry.specs.Limits.{frame_size}
 use Rattle.lists.specs.Joins.{joined}

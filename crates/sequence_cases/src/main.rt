@@ -14,8 +14,8 @@ fn plain_count(marks: &[u8], symbol: u8) -> usize {
     met
 }
 
-// The place of the `symbol` that has so many before it, or the number of marks. With `filter` and `nth` over the places the whole program had
-// half as many instructions again.
+// The place of the `symbol` that has so many before it, or the number of marks. With `filter` and `nth` over the places the whole program
+// had half as many instructions again.
 fn plain_place(marks: &[u8], symbol: u8, before: usize) -> usize {
     let mut left = before;
     for (at, mark) in marks.iter().enumerate() {

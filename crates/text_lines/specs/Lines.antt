@@ -1,5 +1,6 @@
 -- The lines of a stream of bytes, and what the state of one that is being read says of them.
-use Rattle.std.specs.Prelude.{Bool, true, false, cond, ◌&&◌, ◌≡◌, List, [], ◌∷◌, ◌++◌, ℕ, ◌-◌, ◌^◌, ◌≤◌, ◌<◌, min, eqb, length, get_or, take}
+use Rattle.std.specs.Prelude.{Bool, true, false, cond, ◌&&◌, ◌≡◌, List, [], ◌∷◌, ◌++◌, length, get_or, take}
+use Rattle.std.specs.Prelude.{ℕ, ◌-◌, ◌^◌, ◌≤◌, ◌<◌, min, eqb}
 use Rattle.lists.specs.Items.{All}
 use Rattle.lists.specs.Joins.{joined}
 use Rattle.text_lines.specs.declared.Gathered.{Gathered}

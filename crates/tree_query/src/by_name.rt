@@ -1,6 +1,6 @@
 // Queries of an open name, by the record that was read of it. Pool and record stay two parameters: that the record is an open name's
-// (`OfOpenName`) says 'of some name', and a type's invariant takes only what has one proof. Casts that widen stay `as`: by `from` two answers
-// of `count` no longer closed.
+// (`OfOpenName`) says 'of some name', and a type's invariant takes only what has one proof. Casts that widen stay `as`: by `from` two
+// answers of `count` no longer closed.
 ghost use Rattle.std.specs.Prelude.{◌≡◌, ◌≤◌, ◌<◌, length as length_of};
 ghost use Rattle.geometry.specs.Limits.{most_alphabet};
 ghost use Rattle.pool.specs.Trees.{own_count};

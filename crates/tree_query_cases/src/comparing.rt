@@ -105,7 +105,7 @@ impl Asked<'_> {
     }
 
     // The rank at a place, where so many should be met up to it, and so many before it; where that is one more, the place of the last met.
-    // Inlined, it would have the marks compared with a symbol as wide as the loop's counter: half as long again for the whole program.
+    // Inlined, it would have the marks compared with a symbol as wide as the loop's counter: 1.4 times as long for the whole program.
     #[inline(never)]
     fn compare_place(
         &self,
